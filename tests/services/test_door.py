@@ -162,6 +162,17 @@ class Zip(Over):
             "f/space_", "f/_txt.exe", "f/ä", "f/A", "f/a (2)", "f/_", "f/_nul",
             "f/b.txt_1"]))
 
+    def test_names_that_are_seen(self) -> None:
+        """As the page marks them: letters without a shape, formatting signs, blanks."""
+        for name, wanted in (
+                ("a\u3164\u2800\u034fb", "a___b"), ("a\u200b\u061c\ufeff\u00adb", "a____b"),
+                ("a\u2028\u0085\u200e\u2069b", "a____b"), ("2.16\u202fPM\u00a0x", "2.16 PM x"),
+                ("end\u2003", "end_"), ("re\u200dport", "re_port"), ("\u200cx", "_x"),
+                # A joiner where it belongs.
+                ("\U0001f468\u200d\U0001f469.png", "\U0001f468\u200d\U0001f469.png"),
+                ("\u0645\u06cc\u200c\u062e", "\u0645\u06cc\u200c\u062e")):
+            self.assertEqual(archive.safe_name(name), wanted, ascii(name))
+
     def test_header(self) -> None:
         self.room.objects['Ä"\r\nX: y',] = None
         self.room.objects["ä; \"q\"",] = None
