@@ -7,12 +7,12 @@ from . import objects, trees
 from ..ask.answers import Stop
 from ..ask.paths import Names, shown
 from ..ask.room import LARGEST, Ask, Denials, Reply, Room, Talk, about, rows
-from ..ask.tags import names_tag
+from ..ask.tags import names_tag, tag_of
 from .conditions import Condition, Listed, read_if
 from .dates import Dates
 from .kept import Kept
 from .locks import Lock, Locks
-from .objects import Document, Folder, stop_of, tag_of
+from .objects import Document, Folder, stop_of
 from .paths import other_names
 from .tasks import Tasks
 from .trees import Spend

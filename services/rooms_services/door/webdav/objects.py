@@ -9,6 +9,7 @@ from ..ask import lists
 from ..ask.answers import Stop
 from ..ask.paths import Names, shown
 from ..ask.room import LARGEST, ROW, Ask, Reply, about, listed
+from ..ask.tags import tag_of
 
 # Documents, of up to 1 MiB each, that are in memory at once.
 ROW_OF_DOCUMENTS = 8
@@ -47,11 +48,6 @@ class Measure:
     length: int
     tag: str
     sums: str
-
-
-def tag_of(body: bytes) -> str:
-    """Some clients have no room for more."""
-    return f'"{hashlib.sha256(body).hexdigest()[:32]}"'
 
 
 def measure(body: bytes, with_sums: bool) -> Measure:
