@@ -63,6 +63,9 @@ alone 'what a level is' '"rwaxDtc"' web/tables/level_forms.js "${of_admin[@]}" \
 mapfile -t of_door < <(cd "$repo" && printf '%s\n' services/rooms_services/door/{,*/}*.py)
 alone 'a list is read at the door' '[.]split\(b?":"|removeprefix\(b?"list:' \
   services/rooms_services/door/ask/lists.py "${of_door[@]}"
+alone 'a tag is made' 'sha256\(' services/rooms_services/door/ask/tags.py "${of_door[@]}"
+alone 'who could have changed it is said' 'def holders|changersBy|inForce\([^)]*'"'[wa]*C'" \
+  services/rooms_services/door/folders/holders.py "${of_door[@]}" 'web/net/*.js' 'web/share/*.js'
 alone 'which day it is' 'toISOString\(\)[.]slice\(0, 10\)|getDate\(\)|T23:59' web/net/clock.js \
   'web/*/*.js'
 mapfile -t of_services < <(cd "$repo" && printf '%s\n' services/rooms_services/{,*/,*/*/}*.py)

@@ -65,7 +65,7 @@ node_says 'what the panel says of one click, in rooms at random' '20000 tried, 0
   "$here/web/unsaid.mjs" page 20000
 node_says 'what was seen further down, after changes' '300 tried, 0 faults' \
   "$here/web/crawling.mjs" page 300
-node_says 'what may not be read, and a room that is away' '35 tried, 0 faults' \
+node_says 'what may not be read, and a room that is away' '42 tried, 0 faults' \
   "$here/web/away.mjs" page
 same_folded() {
   python3 -IB "$here/web/searched.py" page "$repo/services" >"$work/out" 2>"$work/err"

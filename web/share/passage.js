@@ -158,7 +158,7 @@ async function afterFault({ path, next }, fault, sent) {
 // Sends lists one after the other: [{path, before, next}]. Returns {done, left, changed}: nothing
 // is sent unless each list is the one that was judged, and what was sent is taken back if a later
 // one fails. 'left' are the paths where that failed too; a fault has it as well. 'changed' is the
-// text of the list that somebody else changed.
+// path of the list that somebody else changed.
 export async function sendAll(steps) {
   const seen = new Map();
   const isSame = async ({ path, before }) => {
@@ -166,7 +166,7 @@ export async function sendAll(steps) {
     return seen.get(path).text === before;
   };
   const notSent = async ({ path }, sent) => (
-    { done: false, left: await takeBack(sent, false), changed: seen.get(path).text });
+    { done: false, left: await takeBack(sent, false), changed: path });
   for (const step of steps) if (!(await isSame(step))) return notSent(step, []);
   const sent = [];
   for (const step of steps) {
