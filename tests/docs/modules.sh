@@ -60,15 +60,19 @@ alone() { # WHAT PATTERN PLACE FILE ..
 mapfile -t of_admin < <(cd "$repo" && printf '%s\n' admin/rooms_admin/{,*/}*.py)
 alone 'what a level is' '"rwaxDtc"' web/tables/level_forms.js "${of_admin[@]}" \
   'web/acl/*.js' 'web/tables/*.js'
-mapfile -t of_door < <(cd "$repo" && printf '%s\n' services/rooms_services/door/{,*/}*.py)
+mapfile -t of_services < <(cd "$repo" && printf '%s\n' services/rooms_services/{,*/,*/*/}*.py)
+alone 'what ends a request, and what answers it' 'class (Answer|Stop)\b' \
+  services/rooms_services/room/answers.py "${of_services[@]}"
+alone 'a room is asked by services' 'HTTP/1[.]1 \(|Room-User: |GET /can' \
+  services/rooms_services/room/room.py "${of_services[@]}"
+mapfile -t of_door < <(cd "$repo" && printf '%s\n' services/rooms_services/{room/,door/{,*/}}*.py)
 alone 'a list is read at the door' '[.]split\(b?":"|removeprefix\(b?"list:' \
-  services/rooms_services/door/ask/lists.py "${of_door[@]}"
-alone 'a tag is made' 'sha256\(' services/rooms_services/door/ask/tags.py "${of_door[@]}"
+  services/rooms_services/room/lists.py "${of_door[@]}"
+alone 'a tag is made' 'sha256\(' services/rooms_services/room/tags.py "${of_door[@]}"
 alone 'who could have changed it is said' 'def holders|changersBy|inForce\([^)]*'"'[wa]*C'" \
   services/rooms_services/door/folders/holders.py "${of_door[@]}" 'web/net/*.js' 'web/share/*.js'
 alone 'which day it is' 'toISOString\(\)[.]slice\(0, 10\)|getDate\(\)|T23:59' web/net/clock.js \
   'web/*/*.js'
-mapfile -t of_services < <(cd "$repo" && printf '%s\n' services/rooms_services/{,*/,*/*/}*.py)
 alone 'which signs are invisible' 'u3164|u2800|u200[bef]|u202[ae]' web/tables/invisible_signs.js \
   'web/*.js' 'web/*/*.js' "${of_admin[@]}" "${of_services[@]}"
 alone "an entry's text is read" '\[ADUL\]|[.]split\(b?":"' admin/rooms_admin/room/entries.py \

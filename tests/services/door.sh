@@ -11,7 +11,7 @@ services=$repo/services
 printf '%s\n' '[mypy]' 'strict = True' "cache_dir = $PWD/mypy" >mypy.ini
 if has mypy; then
   MYPYPATH=$services:$repo/admin:$here/services mypy --config-file mypy.ini \
-    "$services/rooms_services/door" \
+    "$services"/rooms_services/{room,door} \
     "$here"/services/{fake_room,over,tree,test_door*}.py \
     "$here"/services/{lab,evaluated,at_once,cut_off,hostile,harm,locked}.py >"$work/out" 2>&1
   status=$?
@@ -20,14 +20,14 @@ else
   skip 'types of the door' 'mypy is missing'
 fi
 if has flake8; then
-  flake8 --isolated --max-line-length 100 "$services/rooms_services/door" "$here/services" \
+  flake8 --isolated --max-line-length 100 "$services"/rooms_services/{room,door} "$here/services" \
     >"$work/out" 2>&1
   status=$?
   holds "flake8: $(head -n 5 "$work/out")" [ "$status" = 0 ]
 else
   skip 'style of the door' 'flake8 is missing'
 fi
-find "$services/rooms_services/door" -name '*.py' -exec wc -l {} + |
+find "$services"/rooms_services/{room,door} -name '*.py' -exec wc -l {} + |
   awk '$2 != "total" && $1 >= 500 { print $2 }' >found
 same 'no file has 500 lines' found /dev/null
 for suite in "$here"/services/test_door*.py; do

@@ -6,12 +6,12 @@ import zipfile
 from unittest import mock
 
 from over import Over
-from rooms_services.door.ask import room
+from rooms_services.room import room
 from rooms_services.door.folders import archive, below, walk
 from rooms_services.door.folders.goes import barrier
 from rooms_services.door.folders.holders import holders
-from rooms_services.door.ask.paths import names_in
-from rooms_services.door.ask.room import ROW_BYTES, Ask, rows
+from rooms_services.room.paths import names_in
+from rooms_services.room.room import ROW_BYTES, Ask, rows
 
 OPEN = "list:a\nA:fd:alice:rwx\n"
 FOLLOWS = "list:a\nA:I:alice:rwx\n"

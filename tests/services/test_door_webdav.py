@@ -6,7 +6,7 @@ from unittest import mock
 from xml.etree import ElementTree
 
 from over import LOCKINFO, Drive
-from rooms_services.door.ask.answers import Stop
+from rooms_services.room.answers import Stop
 from rooms_services.door.webdav import bodies, calls, conditions, paths
 
 

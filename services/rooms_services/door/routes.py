@@ -2,15 +2,15 @@
 from collections.abc import Callable
 from dataclasses import dataclass
 
-from .ask.answers import Answer, Stop
+from ..room.answers import Answer, Stop
 from .folders.archive import archive
 from .folders.below import below
 from .folders.closed import closed
 from .folders.find import find
 from .folders.goes import goes
 from .folders.matched import condition_of, read, replace, tag_alone
-from .ask.paths import Names, chosen_in, names_in
-from .ask.room import Room
+from ..room.paths import Names, chosen_in, names_in
+from ..room.room import Room
 
 PREFIX = "/door/"
 # What may take long, each with its kind.

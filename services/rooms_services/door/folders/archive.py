@@ -9,9 +9,9 @@ from urllib.parse import quote
 
 from rooms_admin.cli import signs
 
-from ..ask.answers import Answer, in_pieces
-from ..ask.paths import Names
-from ..ask.room import Ask, Reply, Room, ended
+from ...room.answers import Answer, in_pieces
+from ...room.paths import Names
+from ...room.room import Ask, Reply, Room, ended
 from .walk import Node, Step, Walk, refuse_long, top_of
 from .zipped import Writer
 

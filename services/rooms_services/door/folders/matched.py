@@ -3,11 +3,11 @@ change are sent over one connection, and the room answers nobody else in between
 from elsewhere comes before the look or after the change."""
 from dataclasses import dataclass
 
-from ..ask.answers import Answer, Stop
+from ...room.answers import Answer, Stop
 from .holders import holders
-from ..ask.paths import Names, shown
-from ..ask.room import Reply, Room, Talk, about
-from ..ask.tags import of_reading, tag_of, tags_in
+from ...room.paths import Names, shown
+from ...room.room import Reply, Room, Talk, about
+from ...room.tags import of_reading, tag_of, tags_in
 
 # Nothing of it is shown as a page of this site, nor kept where somebody else could find it.
 SAFE = {"Content-Disposition": "attachment", "Cache-Control": "private, no-store"}

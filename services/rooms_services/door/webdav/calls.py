@@ -4,10 +4,10 @@ from collections.abc import Callable, Iterable, Iterator
 from contextlib import contextmanager
 
 from . import objects, trees
-from ..ask.answers import Stop
-from ..ask.paths import Names, shown
-from ..ask.room import LARGEST, Ask, Denials, Reply, Room, Talk, about, rows
-from ..ask.tags import names_tag, tag_of
+from ...room.answers import Stop
+from ...room.paths import Names, shown
+from ...room.room import LARGEST, Ask, Denials, Reply, Room, Talk, about, rows
+from ...room.tags import names_tag, tag_of
 from .conditions import Condition, Listed, read_if
 from .dates import Dates
 from .kept import Kept

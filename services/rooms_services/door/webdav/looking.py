@@ -5,11 +5,11 @@ from collections.abc import Iterator
 from itertools import chain
 
 from . import bodies, objects, properties
-from ..ask.answers import TEXT, Answer, Stop
+from ...room.answers import TEXT, Answer, Stop
 from ..folders.matched import SAFE
-from ..ask.paths import Names
-from ..ask.room import about
-from ..ask.tags import of_reading, tag_of
+from ...room.paths import Names
+from ...room.room import about
+from ...room.tags import of_reading, tag_of
 from .calls import Call, Drive
 from .locks import Lock
 from .objects import Child, Document, Folder, Measure, stop_of

@@ -3,9 +3,9 @@ takes many requests, between which the room answers others, and is reserved mean
 from collections.abc import Callable
 
 from . import objects, properties, tasks, trees
-from ..ask.answers import Answer, Stop
-from ..ask.paths import Names, is_below, shown
-from ..ask.room import Reply, about
+from ...room.answers import Answer, Stop
+from ...room.paths import Names, is_below, shown
+from ...room.room import Reply, about
 from .calls import Call, Drive
 from .objects import Document, Folder, stop_of
 from .tasks import moving

@@ -5,11 +5,11 @@ from collections.abc import Iterable, Iterator
 from dataclasses import dataclass
 from typing import NamedTuple, Protocol
 
-from ..ask import lists
-from ..ask.answers import Stop
-from ..ask.paths import Names, shown
-from ..ask.room import LARGEST, ROW, Ask, Reply, about, listed
-from ..ask.tags import tag_of
+from ...room import lists
+from ...room.answers import Stop
+from ...room.paths import Names, shown
+from ...room.room import LARGEST, ROW, Ask, Reply, about, listed
+from ...room.tags import tag_of
 
 # Documents, of up to 1 MiB each, that are in memory at once.
 ROW_OF_DOCUMENTS = 8

@@ -9,9 +9,9 @@ from collections.abc import Callable, Iterator
 from contextlib import contextmanager
 from dataclasses import dataclass
 
-from ..ask.answers import Stop
-from ..ask.paths import Names, shown
-from ..ask.room import Ask, Reply, about
+from ...room.answers import Stop
+from ...room.paths import Names, shown
+from ...room.room import Ask, Reply, about
 from . import trees
 from .kept import Kept, Row
 from .objects import Asks

@@ -4,9 +4,9 @@ all is done or nothing, unless somebody changes rights or things in between."""
 from collections.abc import Callable
 from dataclasses import dataclass
 
-from ..ask.answers import Stop
-from ..ask.paths import Names
-from ..ask.room import Reply, about
+from ...room.answers import Stop
+from ...room.paths import Names
+from ...room.room import Reply, about
 from ..folders.goes import barrier
 from .objects import Asks, children_of, stop_of
 
