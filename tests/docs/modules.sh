@@ -32,6 +32,7 @@ only 'a lock is taken' '\bflock\(' host/locks
 only 'HTTP goes to a socket in the file system' '\(http[.]client[.]HTTPConnection\):' host/at_socket
 only 'the number of a run is read' '"number \(|DATED = ' room/backups
 only 'a file of passwords is named' '[.]htpasswd' room/passwords
+only 'which hashes may be tried is said' 'apr1|[$]2|/A-Za-z0-9\]' room/passwords
 only 'what can be a password is said' 'normalize\("NFC", password|LONGEST = 72' room/password_rules
 only "members' rows are written and read" 'group,user' room/members
 only 'the members of a room are replaced' '\bmembers[.]write\(' room/known
