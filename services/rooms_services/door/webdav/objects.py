@@ -131,10 +131,20 @@ def may(by: Asks, names: Names, bits: str) -> None:
         raise Stop(403, "denied", f"denied: {bits} at {shown(names)}")
 
 
-def has_own_list(by: Asks, names: Names) -> bool:
-    """Whether a list of rights or of records was set at the object itself, as far as the caller may
-    read it."""
+def _lists(by: Asks, names: Names) -> list[bytes]:
+    """Those of rights and of records, as far as the caller may read them."""
     if not by.ask(about("GET", "can", names, "c")).rulings().get("c"):
-        return False
-    return any(reply.status == 200 and lists.read(reply.body.decode()).is_own for reply in by.row(
-        [about("GET", which, names) for which in ("dacl", "sacl")]))
+        return []
+    return [reply.body for reply in by.row(
+        [about("GET", which, names) for which in ("dacl", "sacl")]) if reply.status == 200]
+
+
+def has_own_list(by: Asks, names: Names) -> bool:
+    """Whether one was set at the object itself."""
+    return any(lists.read(body.decode()).is_own for body in _lists(by, names))
+
+
+def length_of_lists(by: Asks, names: Names) -> int:
+    """In bytes. Those that can't be read may be as long as any."""
+    found = _lists(by, names)
+    return sum(map(len, found)) if len(found) == 2 else LARGEST
