@@ -59,6 +59,8 @@ alone() { # WHAT PATTERN PLACE FILE ..
   holds "$1 in $3" [ "$status" = 0 ]
 }
 mapfile -t of_admin < <(cd "$repo" && printf '%s\n' admin/rooms_admin/{,*/}*.py)
+alone 'the routes of a room' 'folder[|]object|"object", "move"' admin/rooms_admin/site/template.py \
+  'deploy/nginx/*' "${of_admin[@]}"
 alone 'what a level is' '"rwaxDtc"' web/tables/level_forms.js "${of_admin[@]}" \
   'web/acl/*.js' 'web/tables/*.js'
 mapfile -t of_services < <(cd "$repo" && printf '%s\n' services/rooms_services/{,*/,*/*/}*.py)
