@@ -34,6 +34,7 @@ only 'the number of a run is read' '"number \(|DATED = ' room/backups
 only 'a file of passwords is named' '[.]htpasswd' room/passwords
 only 'which hashes may be tried is said' 'apr1|[$]2|/A-Za-z0-9\]' room/passwords
 only 'what can be a password is said' 'normalize\("NFC", password|LONGEST = 72' room/password_rules
+only 'the texts of a backup are named' '[/"-](records|review)[.]csv"|"lists[.]txt"' room/texts
 only "members' rows are written and read" 'group,user' room/members
 only 'the members of a room are replaced' '\bmembers[.]write\(' room/known
 only 'what was known of them is kept' 'members[.]csv' room/known
