@@ -1,34 +1,26 @@
 """One request of nginx's by SCGI, which is 'LENGTH:NAME\\0VALUE\\0..,BODY', and its answer in the
 form of CGI. Much less than HTTP: nginx has read that, and sends these fields alone."""
-import json
 import re
 from collections.abc import Callable
+
+from .room.answers import Answer, Stop, reason
 
 Read = Callable[[int], bytes]
 # Of all fields: a target may have 16 kB.
 FIELDS = 20480
 
 
-class Answer(Exception):
-    """Ends the request: a status, and the word that the web interface puts into a sentence."""
-
-    def __init__(self, status: str, why: str = "", body: bytes = b"", kind: str = "",
-                 fields: tuple[str, ...] = (), has_length: bool = True) -> None:
-        super().__init__(status)
-        self.status, self.why, self.body, self.kind, self.fields = status, why, body, kind, fields
-        self.has_length = has_length
-
-    def text(self) -> bytes:
-        body = json.dumps({"why": self.why}).encode() if self.why else self.body
-        kind = "application/json" if self.why else self.kind
-        lines = [f"Status: {self.status}", *([f"Content-Type: {kind}"] if kind else []),
-                 *self.fields, *([f"Content-Length: {len(body)}"] if self.has_length else []),
-                 "", ""]
-        return "\r\n".join(lines).encode("ascii") + body
+def written(answer: Answer) -> bytes:
+    """Without the parts of one that has these: whoever sends them breaks off where one fails."""
+    lines = [f"Status: {answer.status} {reason(answer.status)}",
+             *([f"Content-Type: {answer.kind}"] if answer.kind else []),
+             *(f"{name}: {text}" for name, text in answer.fields.items()),
+             *([f"Content-Length: {len(answer.body)}"] if answer.parts is None else []), "", ""]
+    return "\r\n".join(lines).encode("ascii") + answer.body
 
 
-def not_understood() -> Answer:
-    return Answer("400 Bad Request", "bad-body")
+def not_understood() -> Stop:
+    return Stop(400, "bad-body")
 
 
 def _exactly(read: Read, count: int) -> bytes:
@@ -60,5 +52,5 @@ def asked(read: Read, most: int) -> tuple[dict[str, str], bytes]:
     if len(fields) * 2 != len(words) or not re.fullmatch("[0-9]{1,5}", size):
         raise not_understood()
     if int(size) > most:
-        raise Answer("413 Payload Too Large", "too-large")
+        raise Stop(413, "too-large")
     return fields, _exactly(read, int(size))

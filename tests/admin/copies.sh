@@ -1,5 +1,4 @@
-# Copies of a room while rooms-admin works on them: who has the lock, on which disk they lie, and
-# that they go.
+# Copies of a room while rooms-admin works on them: on which disk they lie, and that they go.
 
 . "$here/lib/people.sh"
 if ! plays_people || ! has setpriv || ! has flock; then
@@ -7,63 +6,9 @@ if ! plays_people || ! has setpriv || ! has flock; then
   return
 fi
 room_of_alice
-ln -s office.conf kept.conf
-setting UNIT rooms@kept
-
-# A program that says as whom and where it runs, and waits at a word until somebody has seen that.
-cat >prog <<END
-#!/bin/bash
-[ "\$1" = --version ] || echo "\$(id -u) \$PWD \$*" >>"$PWD/ran"
-if [ -e "$PWD/wait-\$1" ]; then
-  echo at it >"$PWD/reading"
-  until [ -e "$PWD/seen" ]; do sleep 0.05; done
-fi
-exec "$rooms" "\$@"
-END
-chmod 755 prog
-: >ran
-: >reading
-chmod 666 ran reading
-setting PROGRAM "$PWD/prog"
-
-# While a nightly run is at work its room isn't removed, and a room that is being removed has no
-# nightly run.
-"$repo/deploy/install" --destdir "$PWD/machine" --program "$rooms" >"$work/out" 2>&1 </dev/null
-verb add --destdir "$PWD/machine" kept
-told 'a further room' 0 'file /etc/rooms/kept.conf'
-settings=$(cksum machine/etc/rooms/kept.conf machine/etc/nginx/sites-available/rooms)
-: >wait-verify
-PATH=$stand/bin:$PATH "$repo/admin/rooms-admin" backup --room "$PWD/office.conf" >night.said 2>&1 \
-  </dev/null &
-running=$!
-until [ -s reading ] || [ ! -d "/proc/$running" ]; do sleep 0.05; done
-for word in '' --dry-run; do
-  # shellcheck disable=SC2086
-  verb remove $word --destdir "$PWD/machine" kept
-  if [ -z "$word" ]; then
-    told 'a room whose nightly run is at work' 2 \
-      'busy: another verb of rooms-admin is at work with rooms@kept'
-  else
-    told 'which may be looked at' 0 'would: /etc/rooms/kept.conf is removed'
-  fi
-  holds 'stays' \
-    [ "$(cksum machine/etc/rooms/kept.conf machine/etc/nginx/sites-available/rooms)" = "$settings" ]
-done
-: >seen
-wait "$running"
-status=$?
-holds "the run doesn't notice: $(cat night.said)" \
-  [ "$status" = 0 -a -s "$(echo backups/office/*/review.csv)" ]
-rm wait-verify seen
-printf '%s\n' 'flock -n "$ROOMS_RUN/.rooms-admin/rooms@kept" true || echo held >"$STAND/held"' \
-  >"$stand/at-rm"
-verb remove --destdir "$PWD/machine" kept
-told 'then it is removed' 0 'file /etc/nginx/sites-available/rooms'
-holds 'with its lock until its settings are gone' \
-  [ "$(cat "$stand/held")" = held -a ! -e machine/etc/rooms/kept.conf ]
-holds 'which is free then' flock -n run/.rooms-admin/rooms@kept true
-verb remove --destdir "$PWD/machine" kept
-told 'and once only' 2 'no room: /etc/rooms/kept.conf'
+watched_program
+room_verb backup
+told 'a nightly run' 0
 
 # Whole rooms are copied to where a disk is, which /tmp need not be.
 elsewhere() { (unset TMPDIR && verb "$@"; exit "$status"); status=$?; }

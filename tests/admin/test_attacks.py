@@ -3,6 +3,7 @@ python3 -m unittest test_attacks."""
 import argparse
 import dataclasses
 import os
+import re
 import signal
 import struct
 import sys
@@ -139,6 +140,22 @@ def room_of(folder: str) -> settings.Room:
     with open(path, "w", encoding="ascii") as made:
         made.write(f"FILE={folder}/R\nBACKUPS={folder}\nPROGRAM=/bin/true\n")
     return settings.room(path)
+
+
+class Hashes(unittest.TestCase):
+    def test_what_nginx_tries_in_a_moment(self) -> None:
+        """What is made here is one of these, and no user puts another one there."""
+        made = b"$2y$10$" + b"a" * 53
+        self.assertTrue(re.fullmatch(passwords.MADE, made))
+        self.assertTrue(re.fullmatch(passwords.MADE, passwords.NOBODYS))
+        for good in (made, made.replace(b"10", b"12"), made + b":of the third floor", b"{SHA}x",
+                     b"$apr1$salt$hash", b"$6$salt$hash"):
+            self.assertTrue(passwords.can_be_tried(b"eve:" + good), good)
+        for wrong in (made.replace(b"10", b"13"), made.replace(b"10", b"31"), made + b"a",
+                      b"$6$rounds=999999999$x$y", b"$y$jFT$x$y", b"{SHA}x\ry"):
+            self.assertFalse(passwords.can_be_tried(b"eve:" + wrong), wrong)
+            self.assertFalse(re.fullmatch(passwords.MADE, wrong))
+        self.assertFalse(passwords.can_be_tried(b"e" * 300 + b":" + b"{PLAIN}" + b"x" * 700))
 
 
 class Held(unittest.TestCase):

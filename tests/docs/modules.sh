@@ -32,7 +32,9 @@ only 'a lock is taken' '\bflock\(' host/locks
 only 'HTTP goes to a socket in the file system' '\(http[.]client[.]HTTPConnection\):' host/at_socket
 only 'the number of a run is read' '"number \(|DATED = ' room/backups
 only 'a file of passwords is named' '[.]htpasswd' room/passwords
+only 'which hashes may be tried is said' 'apr1|[$]2|/A-Za-z0-9\]' room/passwords
 only 'what can be a password is said' 'normalize\("NFC", password|LONGEST = 72' room/password_rules
+only 'the texts of a backup are named' '[/"-](records|review)[.]csv"|"lists[.]txt"' room/texts
 only "members' rows are written and read" 'group,user' room/members
 only 'the members of a room are replaced' '\bmembers[.]write\(' room/known
 only 'what was known of them is kept' 'members[.]csv' room/known
@@ -41,29 +43,42 @@ only 'a server is started' 'systemctl\("start", [a-z.]*unit' room/server
 only 'it is said how long a room may take' '\bANSWER(_SECONDS)? = |_timeout [0-9]+s' room/waits
 only 'a setting has its form' 'setting\("[A-Z_]+",|yes\("[A-Z_]+"\)' room/settings
 only 'what a terminal would obey is written in another way' \
-  'isprintable\(\) (else|or|and)|ascii\(one\)\[' cli/report
+  'ascii\(one\)\[' cli/report
+only 'what of a name is seen is said' 'isprintable\(\) (else|or|and)|table\("invisible' cli/signs
 only "a backup's name is read as a moment" '\bmktime\(|%Y-%m-%d[.]%H%M%S"' room/backups
 only "a room's name is that of its settings" 'removesuffix\("[.]conf"\)' room/settings
 only 'the unit of a nightly run is named' '"rooms-nightly(@\{|" *\+|"$)' room/settings
 only 'a line of settings is read' 'startswith\(f?"[A-Z_{}a-z]+=' room/settings
-# The same of folders of Python and of JavaScript: PLACE is the one file that may have it.
+# The same of folders of Python and of JavaScript: PLACE is the one file that may have it. A FILE
+# may be a pattern, which is for the repository.
 alone() { # WHAT PATTERN PLACE FILE ..
-  (cd "$repo" && grep -nE "$2" "${@:4}" | grep -v "^$3:") >found
+  # shellcheck disable=SC2068
+  (cd "$repo" && grep -nE "$2" ${@:4} 2>&1 | grep -v "^$3:") >found
   same "$1 in $3 alone" found /dev/null
   (cd "$repo" && grep -qE "$2" "$3")
   status=$?
   holds "$1 in $3" [ "$status" = 0 ]
 }
 mapfile -t of_admin < <(cd "$repo" && printf '%s\n' admin/rooms_admin/{,*/}*.py)
+alone 'the routes of a room' 'folder[|]object|"object", "move"' admin/rooms_admin/site/template.py \
+  'deploy/nginx/*' "${of_admin[@]}"
 alone 'what a level is' '"rwaxDtc"' web/tables/level_forms.js "${of_admin[@]}" \
-  web/{acl,tables}/level*.js
-mapfile -t of_door < <(cd "$repo" && printf '%s\n' services/rooms_services/door/{,*/}*.py)
+  'web/acl/*.js' 'web/tables/*.js'
+mapfile -t of_services < <(cd "$repo" && printf '%s\n' services/rooms_services/{,*/,*/*/}*.py)
+alone 'what ends a request, and what answers it' 'class (Answer|Stop)\b' \
+  services/rooms_services/room/answers.py "${of_services[@]}"
+alone 'a room is asked by services' 'HTTP/1[.]1 \(|Room-User: |GET /can' \
+  services/rooms_services/room/room.py "${of_services[@]}"
+mapfile -t of_door < <(cd "$repo" && printf '%s\n' services/rooms_services/{room/,door/{,*/}}*.py)
 alone 'a list is read at the door' '[.]split\(b?":"|removeprefix\(b?"list:' \
-  services/rooms_services/door/ask/lists.py "${of_door[@]}"
+  services/rooms_services/room/lists.py "${of_door[@]}"
+alone 'a tag is made' 'sha256\(' services/rooms_services/room/tags.py "${of_door[@]}"
+alone 'who could have changed it is said' 'def holders|changersBy|inForce\([^)]*'"'[wa]*C'" \
+  services/rooms_services/door/folders/holders.py "${of_door[@]}" 'web/net/*.js' 'web/share/*.js'
 alone 'which day it is' 'toISOString\(\)[.]slice\(0, 10\)|getDate\(\)|T23:59' web/net/clock.js \
-  web/{acl,net,share,ui}/*.js
-alone 'which signs are invisible' 'u3164|u2800' web/tables/invisible_signs.js web/{,*/}*.js \
-  "${of_admin[@]}"
+  'web/*/*.js'
+alone 'which signs are invisible' 'u3164|u2800|u200[bef]|u202[ae]' web/tables/invisible_signs.js \
+  'web/*.js' 'web/*/*.js' "${of_admin[@]}" "${of_services[@]}"
 alone "an entry's text is read" '\[ADUL\]|[.]split\(b?":"' admin/rooms_admin/room/entries.py \
   "${of_admin[@]}"
 echo 'import subprocess' >two.py

@@ -5,6 +5,14 @@ if ! has prove || ! has realpath; then
   skip 'how parts are played' 'no prove or realpath'
   return
 fi
+# Which part stands where, as README.md says.
+installs='lib/(front|machine|booted)[.]sh|deploy/install|--destdir|tools/package'
+(cd "$here" && grep -LE "$installs" install/*.sh) >found
+same 'what begins with nothing installed isn'"'"'t in install' found /dev/null
+(cd "$here" && grep -lE "^[^#]*(lib/(machine|booted)[.]sh|deploy/install. --|--destdir|dpkg)" \
+  admin/*.sh) >found
+same 'what installs isn'"'"'t in admin' found /dev/null
+
 mkdir -p house/{crates,tests/{docs,program,http,admin,install,services,web},cache}
 cp -r "$here/run" "$here/lib" house/tests/
 printf '#!/bin/sh\n' >house/program

@@ -1,6 +1,6 @@
 # What a program can do in the place of a room's server, of the watch over its size, of its door, of
 # what sends mail and of the Apaches that check passwords and sessions, each under its own unit on a
-# machine with the package.
+# machine with the package; and how much of it some of them get.
 
 top=$repo
 version=none
@@ -12,26 +12,49 @@ does 'the package, and two rooms' 'dpkg -i rooms.deb
   systemctl enable --now rooms@office && rooms-admin add invoices carol accounting &&
   rooms-admin user add alice <<<a && systemctl start rooms-nightly@office &&
   systemctl reload-or-restart nginx'
-cp "$here/install/probe.py" "$machine/usr/local/lib/probe.py"
+cp "$here"/install/{probe,bounds}.py "$machine/usr/local/lib/"
 does 'what there is to find' 'echo key >/etc/ssl/private/probe.key
   chmod 600 /etc/ssl/private/probe.key; echo key >/etc/rooms/passwords.key
   chmod 600 /etc/rooms/passwords.key; chmod 1777 /var/tmp'
-probed() { # NAME UNIT WHAT-IT-CAN-DO ..: who starts as root goes on as the user `becomes`
-  local folder=$machine/etc/systemd/system/${2%@*} word=
+# What they print is in ./did; who starts as root goes on as the user `becomes`.
+in_place() { # NAME UNIT WORDS
+  local folder=$machine/etc/systemd/system/${2%@*} word= name=${3%% *}
+  name=${name%.py}-${2%@*}
   [[ $2 != *@* ]] || folder+=@
   [ -z "${becomes-}" ] ||
     word="/usr/bin/setpriv --reuid=$becomes --regid=$becomes --clear-groups "
   mkdir -p "$folder.service.d"
   printf '%s\n' '[Unit]' OnFailure= ConditionPathExists= '[Service]' ExecCondition= ExecStart= \
-    ExecStartPost= Restart=no "ExecStart=$word/usr/bin/python3 -I /usr/local/lib/probe.py" \
-    "SyslogIdentifier=probe-${2%@*}" >"$folder.service.d/probe.conf"
+    ExecStartPost= Restart=no OOMPolicy=continue MemorySwapMax=0 "SyslogIdentifier=$name" \
+    "ExecStart=$word/usr/bin/python3 -I /usr/local/lib/$3" >"$folder.service.d/probe.conf"
   does "$1" "systemctl stop $2; systemctl daemon-reload; systemctl start $2"
   until_inside 'has ended' "[ \"\$(systemctl show $2 -p ActiveState --value)\" = inactive ]"
-  inside "journalctl --sync; journalctl -t probe-${2%@*} --no-pager -o cat"
-  printf '%s\n' "${@:3}" >wanted
-  same "$1: what it can do" "$work/out" wanted
+  inside "journalctl --sync; journalctl -t $name --no-pager -o cat"
+  cp "$work/out" did
   rm "$folder.service.d/probe.conf"
   does 'as it was' 'systemctl daemon-reload'
+}
+probed() { # NAME UNIT WHAT-IT-CAN-DO ..
+  in_place "$1" "$2" probe.py
+  printf '%s\n' "${@:3}" >wanted
+  same "$1: what it can do" did wanted
+}
+# The numbers of the table of budgets, which are tried where this machine can hold anybody to them.
+bounded() { # NAME UNIT TASKS MEGABYTES
+  local more=$(($4 * 5 / 4)) limits
+  inside "systemctl show $2 -p MemoryMax -p TasksMax"
+  printf '%s\n' "MemoryMax=$(($4 << 20))" "TasksMax=$3" >wanted
+  same "$1: what its unit says" "$work/out" wanted
+  inside 'cat /sys/fs/cgroup/cgroup.controllers'
+  limits=" $(cat "$work/out") "
+  if [[ $limits != *' memory '* || $limits != *' pids '* ]] ||
+    [ "$(awk '/^MemAvailable/ { print int($2 / 1024) }' /proc/meminfo)" -le $((more + 2048)) ]; then
+    skip "$1: $3 tasks, $4 MB" 'no limits of groups of processes here, or too little memory'
+    return
+  fi
+  in_place "$1" "$2" "bounds.py $more"
+  printf '%s\n' "tasks: $3" "$more MB: no" >wanted
+  same "$1: how many tasks, and how much memory" did wanted
 }
 probed 'in the place of a door' rooms-door@office \
   'write /var/tmp' 'ask /run/rooms/office/socket' 'ask /run/rooms/invoices/socket'
@@ -57,6 +80,8 @@ becomes=rooms-passwords
 by_apache=('read /etc/rooms/office.conf' 'read /etc/nginx/nginx.conf' 'list /var/log/nginx'
   'write /var/tmp' 'ask 127.0.0.1:80')
 probed 'in the place of what asks a directory' rooms-passwords "${by_apache[@]}"
+bounded 'what asks a directory' rooms-passwords 256 512
+becomes= bounded 'what opens nights' rooms-nights 96 1536
 does 'the unit of the page' "$(block docs/directory.md '[Service]' | sed '/^systemctl /d')"
 probed 'in the place of what has sessions' rooms-session "${by_apache[@]}"
 stop_machine

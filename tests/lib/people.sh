@@ -44,3 +44,22 @@ room_of_alice() {
   starts
   asks 'a document' made PUT /doc/f alice hello
 }
+
+# A room's program that says in ./ran as whom and where it runs, and that waits at a word, while
+# there is ./wait-WORD, until there is ./seen; ./reading has a line then.
+watched_program() {
+  cat >prog <<END
+#!/bin/bash
+[ "\$1" = --version ] || echo "\$(id -u) \$PWD \$*" >>"$PWD/ran"
+if [ -e "$PWD/wait-\$1" ]; then
+  echo at it >"$PWD/reading"
+  until [ -e "$PWD/seen" ]; do sleep 0.05; done
+fi
+exec "$rooms" "\$@"
+END
+  chmod 755 prog
+  : >ran
+  : >reading
+  chmod 666 ran reading
+  setting PROGRAM "$PWD/prog"
+}

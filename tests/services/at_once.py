@@ -42,7 +42,7 @@ class Event(NamedTuple):
 
 
 def tag(value: bytes) -> str:
-    return hashlib.sha256(value).hexdigest()
+    return hashlib.sha256(value).hexdigest()[:32]
 
 
 class Client:
@@ -71,11 +71,10 @@ class Client:
     def write(self, way: str, document: str, value: bytes, before: bytes) -> Said:
         if way == "put":
             return self.lab.in_room(self.user, "PUT", f"/doc/{document}", value)
-        long = f'"{tag(before)}"'
-        short = f'"{tag(before)[:32]}"'
+        named = f'"{tag(before)}"'
         conditions: dict[str, dict[str, str]] = {
-            "matched": {"If_Match": long}, "stale": {"If_Match": long},
-            "drive": {"If_Match": short}, "if": {"If": f"([{short}])"}, "drive put": {}}
+            "matched": {"If_Match": named}, "stale": {"If_Match": named},
+            "drive": {"If_Match": named}, "if": {"If": f"([{named}])"}, "drive put": {}}
         where = "/door/doc" if way in ("matched", "stale") else "/drive"
         return self.lab.at_door(self.user, "PUT", f"{where}/{document}", value,
                                 **conditions[way])

@@ -11,7 +11,7 @@ services=$repo/services
 printf '%s\n' '[mypy]' 'strict = True' "cache_dir = $PWD/mypy" >mypy.ini
 if has mypy; then
   MYPYPATH=$services:$repo/admin:$here/services mypy --config-file mypy.ini \
-    "$services/rooms_services/door" \
+    "$services"/rooms_services/{room,door} \
     "$here"/services/{fake_room,over,tree,test_door*}.py \
     "$here"/services/{lab,evaluated,at_once,cut_off,hostile,harm,locked}.py >"$work/out" 2>&1
   status=$?
@@ -20,14 +20,14 @@ else
   skip 'types of the door' 'mypy is missing'
 fi
 if has flake8; then
-  flake8 --isolated --max-line-length 100 "$services/rooms_services/door" "$here/services" \
+  flake8 --isolated --max-line-length 100 "$services"/rooms_services/{room,door} "$here/services" \
     >"$work/out" 2>&1
   status=$?
   holds "flake8: $(head -n 5 "$work/out")" [ "$status" = 0 ]
 else
   skip 'style of the door' 'flake8 is missing'
 fi
-find "$services/rooms_services/door" -name '*.py' -exec wc -l {} + |
+find "$services"/rooms_services/{room,door} -name '*.py' -exec wc -l {} + |
   awk '$2 != "total" && $1 >= 500 { print $2 }' >found
 same 'no file has 500 lines' found /dev/null
 for suite in "$here"/services/test_door*.py; do
@@ -141,7 +141,7 @@ ask 'what bars it' 200 '{"at":"/f","barred":{"at":"/f","path":"/f/board"},"objec
 # Only what was seen is replaced.
 answer alice:a /door/doc/f/plan -I
 tag=$(sed -n 's/^ETag: \(.*\)\r$/\1/p' "$work/head")
-holds 'the tag alone' [ "$tag" = "\"$(printf hello | sha256sum | cut -d ' ' -f 1)\"" ]
+holds 'the tag alone' [ "$tag" = "\"$(printf hello | sha256sum | cut -c 1-32)\"" ]
 answer alice:a /door/doc/f/plan
 tag=$(sed -n 's/^ETag: \(.*\)\r$/\1/p' "$work/head")
 holds 'one disposition' [ "$(grep -ci '^content-disposition' "$work/head")" = 1 ]
@@ -151,7 +151,7 @@ curl -s -o "$work/body" -w '%{http_code}' -u alice:a -X PUT -H "If-Match: $tag" 
 holds 'another one of before it' [ "$(cat code)" = 412 ]
 holds 'says who could have changed it' grep -qF '"who":["root","alice"]' "$work/body"
 ask 'it is as it was' 200 other alice:a /doc/f/plan
-tag=\"$(printf other | sha256sum | cut -d ' ' -f 1)\"
+tag=\"$(printf other | sha256sum | cut -c 1-32)\"
 ask 'what was seen' 204 '' alice:a /door/doc/f/plan -X PUT --data-binary mine -H "If-Match: $tag"
 ask 'only a new one' 412 - alice:a /door/doc/f/plan -X PUT --data-binary x -H 'If-None-Match: *'
 ask 'without a condition' 428 '{"why":"no-condition"}' alice:a /door/doc/f/plan -X PUT -d x
@@ -258,7 +258,7 @@ ask 'a counter' 201 '' root:r /doc/f/counter -X PUT --data-binary 0
 number=0
 for turn in {1..15}; do
   for n in {1..20}; do
-    tag=\"$(printf %s "$number" | sha256sum | cut -d ' ' -f 1)\"
+    tag=\"$(printf %s "$number" | sha256sum | cut -c 1-32)\"
     code=$(curl -s -o "$work/body" -w '%{http_code}' -u root:r -X PUT -H "If-Match: $tag" \
       --data-binary $((number + 1)) "$base/door/doc/f/counter")
     case $code in

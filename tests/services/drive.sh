@@ -97,6 +97,13 @@ dav 'after a kill' 423 bob:b PUT /letter.odt --data-binary three
 dav 'and its user' 204 alice:a PUT /letter.odt --data-binary three -H "If: ($token)"
 dav 'ends it' 204 alice:a UNLOCK /letter.odt -H "Lock-Token: $token"
 dav 'then others save' 204 bob:b PUT /letter.odt --data-binary four
+lock alice:a /letter.odt
+dav 'not while somebody has it' 423 bob:b PUT /letter.odt --data-binary four
+awk '/^```/ { if (inside && text ~ /UNLOCK/) printf "%s", text; inside = !inside; text = ""; next }
+  inside { text = text $0 "\n" }' "$repo/docs/drive.md" |
+  sed "s|/run/rooms-door/|$PWD/run/door/|; s|/letters/reply.odt|/letter.odt|" >one-lock
+bash one-lock >"$work/out" 2>&1
+dav 'until root ends it, as the page says' 204 bob:b PUT /letter.odt --data-binary four
 dav 'a rename of what has a list of its own' 403 root:r MOVE /letter.odt \
   -H "Destination: $base/drive/~WRL1.tmp"
 dav 'a file of a program' 201 root:r PUT /new.tmp --data-binary five

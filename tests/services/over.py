@@ -8,7 +8,7 @@ import threading
 import unittest
 
 from fake_room import FakeRoom, Served
-from rooms_services.door.ask.room import Room
+from rooms_services.room.room import Room
 from rooms_services.door.serve import Door, opened
 from rooms_services.door.webdav import calls
 from rooms_services.door.webdav.kept import Kept

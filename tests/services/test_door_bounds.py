@@ -13,9 +13,9 @@ from xml.etree import ElementTree
 
 from fake_room import FakeRoom
 from over import Over
-from rooms_services.door.ask import answers
-from rooms_services.door.ask.answers import Stop
-from rooms_services.door.ask.room import listed
+from rooms_services.room import answers
+from rooms_services.room.answers import Stop
+from rooms_services.room.room import listed
 from rooms_services.door.folders import archive, walk, zipped
 from rooms_services.door.webdav import dates, looking
 

@@ -7,8 +7,8 @@ from unittest import mock
 
 from over import Local, Over
 from rooms_services.door import serve
-from rooms_services.door.ask import room, turns
-from rooms_services.door.ask.answers import Stop
+from rooms_services.room import room, turns
+from rooms_services.room.answers import Stop
 
 
 class Busy(Over):

@@ -6,7 +6,7 @@ from unittest import mock
 from xml.etree import ElementTree
 
 from over import LOCKINFO, Drive
-from rooms_services.door.ask.answers import Stop
+from rooms_services.room.answers import Stop
 from rooms_services.door.webdav import bodies, calls, conditions, paths
 
 
@@ -190,7 +190,7 @@ class AtOnce(Drive):
         def slowly(user: str, path: tuple[str, ...], query: str, body: bytes
                    ) -> tuple[int, object]:
             seen.append(len(self.door.drive.locks.covering(("f", "b")))  # type: ignore[union-attr]
-                        if path == ("f", "a") else 0)
+                        if path[1:] == ("a",) else 0)
             return delete(user, path, query, body)
         setattr(self.room, "_delete_object", slowly)
         self.assertEqual(self.status("DELETE", "/f"), 204)

@@ -74,6 +74,31 @@ class Whole(Over):
     def test_copy(self) -> None:
         self.shape("COPY", SOURCE, [SOURCE, {**SOURCE, **COPIED}])
 
+    def test_delete(self) -> None:
+        self.shape("DELETE", SOURCE, [SOURCE, {}])
+
+    def test_who_may_remove_and_not_add(self) -> None:
+        """It can't stand aside, so it goes piece by piece."""
+        self.room.objects = {(): None, **SOURCE}
+        self.room.denied.add(("alice", "/", "a"))
+        self.assertEqual(self.ask("DELETE", "/drive/s")[0], 204)
+        self.assertEqual(self.room.objects, {(): None})
+        self.assertEqual([line for line in self.room.seen if " POST /move/" in line], [])
+
+    def test_what_comes_into_a_folder_that_goes(self) -> None:
+        """It stays, with the folder in its place."""
+        self.room.objects = {(): None, **SOURCE}
+        remove = self.room._delete_object
+
+        def comes(user: str, path: tuple[str, ...], query: str, body: bytes) -> Said:
+            if path[-1] == "b":
+                self.room.objects[(*path[:-1], "late")] = b"late"
+            return remove(user, path, query, body)
+        setattr(self.room, "_delete_object", comes)
+        status, _, body = self.ask("DELETE", "/drive/s")
+        self.assertEqual((status, b"/drive/s/g" in body, b"~old" in body), (207, True, False))
+        self.assertEqual(self.room.objects["s", "g", "late"], b"late")
+
     def test_who_may_only_add(self) -> None:
         """They couldn't take another name away, so the copy is made in its place."""
         self.room.objects = {(): None, **SOURCE}
@@ -184,6 +209,27 @@ class Full(Over):
             self.assertEqual(self.ask("COPY", "/drive/f", Destination="/drive/g")[0], 413)
         self.assertEqual(self.room.objects, before)
         self.assertEqual(len([line for line in self.room.seen if " PUT /doc/" in line]), 5)
+
+    def test_a_copy_has_lists(self) -> None:
+        """Each of what is made has those of its folder. Where nobody sees them they may be long."""
+        long = "list:a\n" + "A:fd:alice:rw\n" * 50
+        get = self.room._get_dacl
+
+        def lists(user: str, path: tuple[str, ...], query: str, body: bytes) -> Said:
+            said = get(user, path, query, body)
+            return (200, long.encode()) if said[0] == 200 else said
+        setattr(self.room, "_get_dacl", lists)
+        before = dict(self.room.objects)
+        # (707 and 7 bytes of lists, and 1000 of a document)
+        for budget, wanted in ((20 * 1714, 201), (20 * 1714 - 1, 413)):
+            with mock.patch.object(calls, "MOST_COPIED", budget):
+                status = self.ask("COPY", "/drive/f", Destination=f"/drive/{wanted}")[0]
+            self.assertEqual(status, wanted)
+        self.room.objects = before
+        setattr(self.room, "_get_can", lambda user, path, query, body: (200, {
+            bit: "silent" if bit == "c" else "allowed 1" for bit in query}))
+        with mock.patch.object(calls, "MOST_COPIED", 20 * 1714):
+            self.assertEqual(self.ask("COPY", "/drive/f", Destination="/drive/g")[0], 413)
 
     def test_what_adds(self) -> None:
         open(self.full, "w").close()

@@ -15,9 +15,9 @@ from fake_room import FakeRoom, Served
 from rooms_admin.host import locks
 from rooms_admin.room import backups
 from rooms_services import scgi
-from rooms_services.door.ask.answers import Answer, Stop
-from rooms_services.door.ask import turns
-from rooms_services.door.ask.room import Reply, Room
+from rooms_services.room.answers import Answer, Stop
+from rooms_services.room import turns
+from rooms_services.room.room import Reply, Room
 from rooms_services.earlier import gate, judge, judging, nights, whole
 from rooms_services.earlier.gate import Opened
 
@@ -494,7 +494,7 @@ class Said(unittest.TestCase):
             self.assertEqual(shown, [one.name for one in reversed(known)])
 
     def test_no_fields(self) -> None:
-        with self.assertRaises(scgi.Answer):
+        with self.assertRaises(Stop):
             scgi.asked(lambda count: b"", 0)
 
 

@@ -17,12 +17,12 @@ start_own 'own passwords under attack' || return
 
 # Rates.
 for n in 1 2 3 4 5; do
-  changes "wrong $n" 403 '{"why": "old"}' "alice:$now" "guess $n" 'third one of hers'
+  changes "wrong $n" 403 '{"why":"old"}' "alice:$now" "guess $n" 'third one of hers'
 done
-changes 'the sixth is not looked at' 429 '{"why": "tries"}' "alice:$now" "$now" \
+changes 'the sixth is not looked at' 429 '{"why":"tries"}' "alice:$now" "$now" \
   'third one of hers'
 changes 'bob goes on' 204 '' 'bob:first one of bob' 'first one of bob' 'second one of his'
-changes 'what was his is wrong now' 403 '{"why": "old"}' 'bob:second one of his' \
+changes 'what was his is wrong now' 403 '{"why":"old"}' 'bob:second one of his' \
   'first one of bob' 'third one of his'
 no_tries
 for n in {1..40}; do
@@ -82,7 +82,7 @@ set_passwords left
 rm slowly/held
 wait $racing
 holds "a name that root removed meanwhile: $(cat code got)" \
-  [ "$(tr -d '\n' <code)$(cat got)" = '409{"why": "changed"}' ]
+  [ "$(tr -d '\n' <code)$(cat got)" = '409{"why":"changed"}' ]
 holds 'stays away' [ "$(grep -c ^bob: "$kept/rooms.htpasswd")" = 0 ]
 stop_keeper
 

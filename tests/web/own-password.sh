@@ -38,7 +38,7 @@ ask 'nobody without a password' 401 - '' /password -X POST -H "$as_json" \
 changes 'a wrong one at nginx' 401 - alice:wrong "$now" 'third one of hers'
 for field in 'Room-User: bob' 'ROOM_USER: bob' 'Room_User: bob' 'ROOM-USER: bob' \
   'REMOTE_USER: bob' 'Room-First: bob'; do
-  changes "bob isn't asked for by $field" 403 '{"why": "old"}' "alice:$now" 'first one of bob' \
+  changes "bob isn't asked for by $field" 403 '{"why":"old"}' "alice:$now" 'first one of bob' \
     'taken by alice' -H "$field"
   no_tries
 done
@@ -46,7 +46,7 @@ ask 'nor in an address' 404 - "alice:$now" /password/bob -X POST -H "$as_json" \
   --data-binary "$(json 'first one of bob' 'taken by alice')"
 ask 'nor by another room' 404 - "alice:$now" /hr/password -X POST -H "$as_json" \
   --data-binary "$(json "$now" 'third one of hers')"
-ask 'nor in the body' 400 '{"why": "bad-body"}' "alice:$now" /password -X POST -H "$as_json" \
+ask 'nor in the body' 400 '{"why":"bad-body"}' "alice:$now" /password -X POST -H "$as_json" \
   --data-binary '{"old":"first one of bob","new":"taken by alice","user":"bob"}'
 holds 'bob has his' cmp -s <(grep -v ^alice: "$kept/rooms.htpasswd") <(grep -v ^alice: all)
 
@@ -56,7 +56,7 @@ for field in 'Sec-Fetch-Site: cross-site' 'Sec-Fetch-Site: same-site' \
   changes "$field" 403 - "alice:$now" "$now" 'third one of hers' -H "$field"
 done
 for kind in text/plain application/x-www-form-urlencoded multipart/form-data ''; do
-  ask "a form's type '$kind'" 415 '{"why": "type"}' "alice:$now" /password -X POST \
+  ask "a form's type '$kind'" 415 '{"why":"type"}' "alice:$now" /password -X POST \
     -H "Content-Type:${kind:+ $kind}" --data-binary "$(json "$now" 'third one of hers')"
 done
 for method in PUT DELETE PATCH; do ask "$method" 405 - "alice:$now" /password -X $method; done
@@ -64,24 +64,24 @@ holds 'GET changes nothing' \
   cmp -s <(grep -v ^alice: "$kept/rooms.htpasswd") <(grep -v ^alice: all)
 
 # What can't be a password.
-changes short 422 '{"why": "short"}' "alice:$now" "$now" ninesigns
-changes none 422 '{"why": "form"}' "alice:$now" "$now" ''
-changes 'the same' 422 '{"why": "same"}' "alice:$now" "$now" "$now"
-changes 'her name' 422 '{"why": "weak"}' "alice:$now" "$now" 'Alice-2026-11'
-changes 'a common one' 422 '{"why": "weak"}' "alice:$now" "$now" 'Passwort2026!!'
-changes 'two of these' 422 '{"why": "weak"}' "alice:$now" "$now" qwertzqwertz12
-changes '73 bytes' 422 '{"why": "form"}' "alice:$now" "$now" "$(printf 'abcdefgh%.0s' {1..9})i"
-changes 'a line end' 422 '{"why": "form"}' "alice:$now" "$now" $'abcdefghijk\nroot:x'
-changes 'another one' 422 '{"why": "form"}' "alice:$now" "$now" $'abcdefghijk\rroot:x'
+changes short 422 '{"why":"short"}' "alice:$now" "$now" ninesigns
+changes none 422 '{"why":"form"}' "alice:$now" "$now" ''
+changes 'the same' 422 '{"why":"same"}' "alice:$now" "$now" "$now"
+changes 'her name' 422 '{"why":"weak"}' "alice:$now" "$now" 'Alice-2026-11'
+changes 'a common one' 422 '{"why":"weak"}' "alice:$now" "$now" 'Passwort2026!!'
+changes 'two of these' 422 '{"why":"weak"}' "alice:$now" "$now" qwertzqwertz12
+changes '73 bytes' 422 '{"why":"form"}' "alice:$now" "$now" "$(printf 'abcdefgh%.0s' {1..9})i"
+changes 'a line end' 422 '{"why":"form"}' "alice:$now" "$now" $'abcdefghijk\nroot:x'
+changes 'another one' 422 '{"why":"form"}' "alice:$now" "$now" $'abcdefghijk\rroot:x'
 for sign in '\u0000' '\u0085' '\u2028' '\ud800' '\u200b' 'e\u0301'; do
-  ask "the sign $sign" 422 '{"why": "form"}' "alice:$now" /password -X POST -H "$as_json" \
+  ask "the sign $sign" 422 '{"why":"form"}' "alice:$now" /password -X POST -H "$as_json" \
     --data-binary "{\"old\":\"$now\",\"new\":\"abcdefghijk$sign\"}"
 done
-ask 'bytes that are no text' 400 '{"why": "bad-body"}' "alice:$now" /password -X POST \
+ask 'bytes that are no text' 400 '{"why":"bad-body"}' "alice:$now" /password -X POST \
   -H "$as_json" --data-binary $'{"old":"x","new":"\xff\xfe"}'
 for body in '' '[]' 1 '{}' '{"old":1,"new":2}' '{"old":"x"}' "$(printf '[%.0s' {1..1500})" \
   '{"old":"a","new":"b"}x'; do
-  ask "the body ${body:0:30}" 400 '{"why": "bad-body"}' "alice:$now" /password -X POST \
+  ask "the body ${body:0:30}" 400 '{"why":"bad-body"}' "alice:$now" /password -X POST \
     -H "$as_json" --data-binary "$body"
 done
 changes '3 kB' 413 - "alice:$now" "$now" "$(printf 'abcdefgh%.0s' {1..375})"
@@ -94,7 +94,7 @@ changes '72 bytes' 204 '' "alice:$now" "$now" "$long"
 now=$long
 ask 'all of them' 401 - "alice:${now%w}" /folder/
 ask 'of them' 200 - "alice:$now" /folder/
-changes 'one whom nginx knows in the clear' 403 '{"why": "old"}' 'eve:first one of eve' \
+changes 'one whom nginx knows in the clear' 403 '{"why":"old"}' 'eve:first one of eve' \
   'first one of eve' 'second one of eve'
 no_tries
 
@@ -121,7 +121,7 @@ echo '{}' | tee root/var/lib/rooms-web/office/people.json \
 ask 'no names' 404 - 'carol:given to carol' /people
 ask 'nor places' 404 - 'carol:given to carol' /mine
 ask 'which others get' 200 - "alice:$now" /people
-changes 'a short one' 422 '{"why": "short"}' 'carol:given to carol' 'given to carol' short
+changes 'a short one' 422 '{"why":"short"}' 'carol:given to carol' 'given to carol' short
 changes 'her own' 204 '' 'carol:given to carol' 'given to carol' 'walnuts in december'
 ask 'opens the room' 403 - 'carol:walnuts in december' /folder/
 holds 'whose lists deny her' grep -q '"at":"/"' "$work/body"

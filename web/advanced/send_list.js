@@ -6,7 +6,8 @@ import { button, element } from '../ui/dom.js';
 import { linesOf, readEntry } from '../acl/entries.js';
 import { texts } from '../language/language.js';
 import { question, showDialog, waitFor } from '../ui/messages.js';
-import { changersBy, seeList, setIfSame } from '../net/matched_list.js';
+import { changersOf } from '../net/door.js';
+import { seeList, setIfSame } from '../net/matched_list.js';
 import { whoCould } from '../ui/who_changed.js';
 import { judged } from '../text/warnings.js';
 import { entryWords } from '../text/words.js';
@@ -57,7 +58,7 @@ export async function sendList(draft) {
   for (;;) {
     const { text: now } = await waitFor(seeList(which, path));
     if (now !== draft.base) {
-      const who = which === 'dacl' ? await whoCould(changersBy(now)) : '';
+      const who = await whoCould(await waitFor(changersOf(which, path)));
       const answer = await changedElsewhere(draft.base, now, who);
       if (!answer) return null;
       draft.settle(now, answer === 'theirs' ? now : draft.text);

@@ -140,7 +140,8 @@ export async function look(path) {
 export async function copyLink(path) {
   const address = new URL(linkTo(path), location.href).href;
   const copied = await navigator.clipboard?.writeText(address).then(() => true, () => false);
-  const rights = `${texts.folder.linkGives} ${await waitFor(readersWords(path))}`;
+  const readers = await waitFor(readersWords(path)).catch(sentenceOf);
+  const rights = `${texts.folder.linkGives} ${readers}`;
   if (copied) tell('good', `${texts.folder.linkCopied} ${rights}`);
   else {
     const field = element('input', {

@@ -7,22 +7,28 @@ import { readListText } from '../acl/entries.js';
 
 const UNKNOWN = { owner: null, group: null };
 
+// Only a denial says that something may not be read. Whatever else fails is told as what it is.
+const ifDenied = (nothing) => (fault) => {
+  if (fault.status !== 403) throw fault;
+  return nothing;
+};
+
+const textAt = (path) => api.readList('dacl', path).catch(ifDenied(null));
+const readOf = (text) => (text === null ? null : readListText(text).list ?? null);
+
 // The dacl of an object, or null where it may not be read.
-export async function listAt(path) {
-  const text = await api.readList('dacl', path).catch(() => null);
-  return text === null ? null : readListText(text).list ?? null;
-}
+export const listAt = (path) => textAt(path).then(readOf);
 
-export const attributesAt = (path) => api.readAttributes(path).catch(() => UNKNOWN);
+export const attributesAt = (path) => api.readAttributes(path).catch(ifDenied(UNKNOWN));
 
-// The folders on the way to a path as {path, list, object}, from the top down, or only the last of
-// them.
+// The folders on the way to a path as {path, text, list, object}, from the top down, or only the
+// last of them. Text and list are null where they may not be read.
 export async function foldersAbove(path, whole) {
   const names = api.namesOf(path);
   const paths = names.map((_, index) => `/${names.slice(0, index).join('/')}`);
   return Promise.all(paths.slice(whole ? 0 : -1).map(async (each) => {
-    const [list, object] = await Promise.all([listAt(each), attributesAt(each)]);
-    return { path: each, list, object };
+    const [text, object] = await Promise.all([textAt(each), attributesAt(each)]);
+    return { path: each, text, list: readOf(text), object };
   }));
 }
 

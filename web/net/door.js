@@ -93,6 +93,13 @@ export async function zipped(folder, names, signal) {
 export const readTagged = (word, path) => insisting(() => ask('GET', word, path, 'blob'))
   .then(({ told, tag }) => ({ blob: told, tag }));
 
+// Those whom its list lets change a document or a list, by name: users, groups as g:NAME, special
+// ones; null where the caller may not know it, and undefined if the door can't tell. It tells that
+// of what isn't the one that was seen, and nothing has an empty tag.
+export const changersOf = (word, path) =>
+  insisting(() => ask('GET', word, path, 'text', '', { headers: { 'If-Match': '""' } }))
+    .then(() => undefined, (fault) => (fault.status === 403 ? null : fault.body?.who));
+
 // The tag of a document alone.
 export const tagAt = (path) => insisting(() => ask('HEAD', 'doc', path, 'text'))
   .then(({ tag }) => tag);

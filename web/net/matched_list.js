@@ -2,8 +2,7 @@
 // come between.
 
 import { putList, readTagged } from './door.js';
-import { isGroup, isInherited, printList, readListText } from '../acl/entries.js';
-import { inForce } from '../acl/decide.js';
+import { isInherited, printList, readListText } from '../acl/entries.js';
 
 // A list as it is now: {text, tag}.
 export async function seeList(which, path) {
@@ -26,13 +25,4 @@ export async function setIfSame(which, path, text, seen) {
     // It was set, and the answer was lost.
     return fault.repeated === true && ownText((await seeList(which, path)).text) === ownText(text);
   }
-}
-
-// Those whom a list's text lets change it, as the door names those of a document: users, and groups
-// as g:NAME.
-export function changersBy(text) {
-  const { list } = readListText(text);
-  return list === null || list === undefined ? null : [...new Set(inForce(list.entries, 'C')
-    .filter(({ type }) => type === 'A')
-    .map((entry) => (isGroup(entry) ? `g:${entry.who}` : entry.who)))];
 }

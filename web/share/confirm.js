@@ -4,7 +4,7 @@ import { texts } from '../language/language.js';
 import { button, element } from '../ui/dom.js';
 import { showDialog, tell, tellFault, waitFor } from '../ui/messages.js';
 import { followOutcome } from './consequences.js';
-import { changersBy } from '../net/matched_list.js';
+import { changersOf } from '../net/door.js';
 import { whoCould } from '../ui/who_changed.js';
 import { lookingLine } from '../ui/progress.js';
 import { placeName } from './access_words.js';
@@ -39,7 +39,10 @@ export async function deliver(state, next, told) {
   try {
     const { done, left, changed } = await waitFor(sendAll([...told.ways(), main]));
     if (done) await waitFor(dropAll(told.left(), state.looking));
-    else tell('bad', `${texts.access.changedMeanwhile} ${await whoCould(changersBy(changed))}`);
+    else {
+      const who = await whoCould(await waitFor(changersOf('dacl', changed)));
+      tell('bad', `${texts.access.changedMeanwhile} ${who}`);
+    }
     if (left.length > 0) tell('bad', stays(left));
     return done ? 'sent' : 'not sent';
   } catch (fault) {

@@ -2,27 +2,14 @@
 // that do nothing else.
 
 import * as api from '../net/api.js';
-import { attributesAt } from '../net/ancestors.js';
 import { barring, isGranted, mayPass } from '../acl/decide.js';
 import { callersFor, isNeeded, statesBelow } from './who_can.js';
 import { entriesOf, isLineOf, keyOf, readLevels } from '../acl/levels.js';
-import { isGroup, isInherited, printEntry, printList, readListText } from '../acl/entries.js';
+import { isGroup, isInherited, printEntry, printList } from '../acl/entries.js';
 import { isOld } from '../net/directory.js';
 import { isMeantBy, subjectsOf } from './subjects.js';
 import { ownText, seeList, setIfSame } from '../net/matched_list.js';
 import { isUnanswered } from '../net/retry.js';
-
-// The folders on the way, from the top down: [{path, text, list, object}].
-export async function wayTo(path) {
-  const names = api.namesOf(path);
-  return Promise.all(names.map(async (_, index) => {
-    const above = `/${names.slice(0, index).join('/')}`;
-    const [text, object] = await Promise.all([
-      api.readList('dacl', above).catch(() => null), attributesAt(above)]);
-    const list = text === null ? null : readListText(text).list ?? null;
-    return { path: above, text, object, list };
-  }));
-}
 
 // Asked once for each panel, which may be drawn several times.
 function mayChange({ changeable }, path) {
@@ -171,7 +158,7 @@ async function afterFault({ path, next }, fault, sent) {
 // Sends lists one after the other: [{path, before, next}]. Returns {done, left, changed}: nothing
 // is sent unless each list is the one that was judged, and what was sent is taken back if a later
 // one fails. 'left' are the paths where that failed too; a fault has it as well. 'changed' is the
-// text of the list that somebody else changed.
+// path of the list that somebody else changed.
 export async function sendAll(steps) {
   const seen = new Map();
   const isSame = async ({ path, before }) => {
@@ -179,7 +166,7 @@ export async function sendAll(steps) {
     return seen.get(path).text === before;
   };
   const notSent = async ({ path }, sent) => (
-    { done: false, left: await takeBack(sent, false), changed: seen.get(path).text });
+    { done: false, left: await takeBack(sent, false), changed: path });
   for (const step of steps) if (!(await isSame(step))) return notSent(step, []);
   const sent = [];
   for (const step of steps) {

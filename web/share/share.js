@@ -4,7 +4,7 @@
 import * as api from '../net/api.js';
 import { accessRows, rowsFromAbove } from './access_rows.js';
 import { adder } from './add_person.js';
-import { attributesAt } from '../net/ancestors.js';
+import { attributesAt, foldersAbove } from '../net/ancestors.js';
 import { button, element, icon } from '../ui/dom.js';
 import { hasUnsentAt } from '../acl/draft.js';
 import { endWords } from '../acl/end_dates.js';
@@ -23,7 +23,6 @@ import { people } from '../net/directory.js';
 import { lookingLine } from '../ui/progress.js';
 import { placeName, shownName } from './access_words.js';
 import { onlyThese } from './only_these.js';
-import { wayTo } from './passage.js';
 import { unreadNames } from './unread.js';
 import { shortened } from '../ui/names.js';
 import { isolated, sentenceOf } from '../text/words.js';
@@ -45,7 +44,7 @@ function follow({ looking, texts }, lists) {
 async function stateOf(path, kind, surroundings) {
   const [text, may, object, me, known, folders] = await Promise.all([
     api.readList('dacl', path), api.can(path, 'C').catch(() => null), attributesAt(path),
-    api.whoAmI().catch(() => ''), people(), wayTo(path)]);
+    api.whoAmI().catch(() => ''), people(), foldersAbove(path, true)]);
   const { list } = readListText(text);
   follow(surroundings, [...folders, { path, text, list }]);
   const model = readLevels(list, kind);

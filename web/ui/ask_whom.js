@@ -18,10 +18,11 @@ function usersOf(entry, owner, known) {
 }
 
 // A sentence that names whoever manages the object at a path: by its list, by what the front end
-// knows of the top, or by its owner, who need not have a right.
+// knows of the top, or by its owner, who need not have a right. It only helps with a fault that is
+// told, so it is there whatever else fails.
 export async function askedFor(path) {
-  const [list, { owner }, known, given] = await Promise.all([
-    listAt(path), attributesAt(path), people(), mine()]);
+  const [list, { owner }, known, given] = await Promise.all([listAt(path).catch(() => null),
+    attributesAt(path).catch(() => ({ owner: null })), people(), mine()]);
   const shown = (users) =>
     shortened(users.map((user) => isolated(fullName(known, user))), MOST_NAMED);
   const managing = inForce(list?.entries ?? [], 'C').filter(({ type }) => type === 'A')

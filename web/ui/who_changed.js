@@ -14,9 +14,11 @@ const wordsOf = (name, known) => {
   return isolated(fullName(known, name));
 };
 
-// A sentence. 'who' are names as the door has them: users, groups as g:NAME, special ones; or null.
+// A sentence. 'who' are names as the door has them: users, groups as g:NAME, special ones; or null
+// where the caller may not know it. Nothing is said where the door couldn't tell.
 export async function whoCould(who) {
-  if (who === null || who === undefined) return texts.changed.unknown;
+  if (who === undefined) return '';
+  if (who === null) return texts.changed.unknown;
   const [known, me] = await Promise.all([people(), whoAmI().catch(() => '')]);
   const others = who.filter((name) => name !== me);
   return others.length === 0 ? texts.changed.above

@@ -1,14 +1,13 @@
 """What is printed, and how a verb ends."""
 import json
 import os
-import re
 import signal
 import sys
 import types
 from collections.abc import Iterator, Mapping, Sequence
 from contextlib import contextmanager
 
-from . import shared
+from .signs import is_seen
 
 prog = "rooms-admin"
 
@@ -25,14 +24,6 @@ class Refused(Stop):
 
 class Interrupted(Stop):
     """A signal came."""
-
-
-_UNSEEN = re.compile(f"[{shared.table('invisible_signs')['unseen']}]")
-
-
-def is_seen(text: str) -> bool:
-    """Whether each sign of it is one that a terminal shows, and doesn't obey."""
-    return text.isprintable() and _UNSEEN.search(text) is None
 
 
 def plain(text: str) -> str:

@@ -5,7 +5,8 @@ from dataclasses import dataclass, field
 
 from ..host import safe
 from . import names
-from ..cli.report import Stop, is_seen, line as as_line
+from ..cli.report import Stop, line as as_line
+from ..cli.signs import is_seen
 
 Pair = tuple[str, str]
 LISTS = ("dacl", "sacl")

@@ -2,7 +2,8 @@
 import re
 import urllib.parse
 
-from ..cli.report import Stop, is_seen
+from ..cli.report import Stop
+from ..cli.signs import is_seen
 
 _USER = re.compile(r"[A-Za-z0-9._+$\\-]{1,64}(@[A-Za-z0-9.-]{1,64})?", re.ASCII)
 _ROOM = re.compile(r"[a-z0-9]([a-z0-9-]{0,30}[a-z0-9])?", re.ASCII)

@@ -18,10 +18,19 @@ from ..host import commands, locks, safe
 from . import password_rules, published
 
 COST = "10"
+# What htpasswd makes of one here.
+MADE = rb"\$2y\$%b\$[./A-Za-z0-9]{53}" % COST.encode()
+# A line with a hash that nginx tries in a moment: of others the cost is in the hash, without end.
+# Root may have made some that are dearer than those of here.
+_TRIED = re.compile(
+    rb"[^:\0-\x1f]{1,300}:(\$2[abxy]\$(0[4-9]|1[0-2])\$[./A-Za-z0-9]{53}"
+    rb"|\$(apr1|1|5|6)\$[./A-Za-z0-9]{0,16}\$[./A-Za-z0-9]*|\{(SHA|SSHA|PLAIN)\}[!-~]*"
+    rb"|[./A-Za-z0-9]{13})(:[ -~]*)?|#[^\0-\x1f]*|")
+_LONGEST_LINE = 1000
 # Of those that are made here; none of these letters looks like another one.
 _LETTERS, _LONG = "abcdefghijkmnpqrstuvwxyz23456789", 16
 # A line that no password fits, of the same cost.
-NOBODYS = b"$2y$10$" + b"." * 53
+NOBODYS = b"$2y$%b$" % COST.encode() + b"." * 53
 KEPT = "/var/lib/rooms-passwords"
 FOLDER = published.ROOT + KEPT
 OLD = "/etc/nginx"
@@ -175,6 +184,12 @@ def kinds(file: str) -> dict[str, bool]:
 def users(file: str) -> set[str]:
     """Also those who have a first password."""
     return set(kinds(file))
+
+
+def can_be_tried(row: bytes) -> bool:
+    """Whether it is a line of a file of passwords that keeps nginx busy for no longer than a
+    moment."""
+    return len(row) <= _LONGEST_LINE and _TRIED.fullmatch(row) is not None
 
 
 def line_of(file: str, user: str) -> Line | None:

@@ -4,11 +4,11 @@ import os
 import shutil
 
 from ..host import safe
-from . import backups
+from . import backups, texts
 from .backups import Backup
 from .settings import Room
 
-_TEXTS = ("records.csv", "lists.txt", "review.csv", "machine.tar", "verdict", backups.RUN)
+_TEXTS = (texts.RECORDS, texts.LISTS, texts.REVIEW, "machine.tar", "verdict", backups.RUN)
 
 
 def remove_unfinished(place: str) -> None:

@@ -247,17 +247,17 @@ class Night:
             say(text)
             mail.notify(self.room.mail, f"the certificate of rooms on {os.uname().nodename}",
                         [text], "warning")
-        if self.room.review and self.kept and os.path.exists(f"{self.kept}/review.csv"):
+        if self.room.review and self.kept and os.path.exists(f"{self.kept}/{texts.REVIEW}"):
             self.put_review()
 
     def put_review(self) -> None:
         """As a client on this machine does. A server has to read its file before it listens."""
         room = self.room
-        document = f"{room.review.rstrip('/')}/{self.date[:10]}-review.csv"
+        document = f"{room.review.rstrip('/')}/{self.date[:10]}-{texts.REVIEW}"
         if server.state(room) != "active":
             say(f"no server runs: {document} isn't put into the room")
             return
-        with safe.own_file(f"{self.kept}/review.csv") as source:
+        with safe.own_file(f"{self.kept}/{texts.REVIEW}") as source:
             body = source.read()
         ends = time.monotonic() + 60
         while True:
@@ -277,7 +277,7 @@ class Night:
                     break
                 time.sleep(1)
         self.failed(f"{names.shown(os.fsencode(document))} isn't put into the room: {text}; it is "
-                    f"{self.kept}/review.csv")
+                    f"{self.kept}/{texts.REVIEW}")
 
     def for_users(self) -> None:
         """What the web interface shows beside the room, and accesses that have an end."""

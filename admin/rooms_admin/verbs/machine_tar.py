@@ -28,11 +28,6 @@ _PLAIN = re.compile(
 _PLAIN_KEY = re.compile(rb"proxy_set_header Rooms-Key [0-9a-f]{48};\n")
 _PASSWORDS = re.compile(rf"({passwords.KEPT[1:]}/({passwords.NAME}|{passwords.FIRST})"
                         rf"|etc/nginx/{passwords.NAME})", re.ASCII)
-# A name, and a hash that nginx tries in a moment: of others the cost is in the hash, without end.
-_PASSWORD = re.compile(
-    rb"[^:\0-\x1f]{1,300}:(\$2[abxy]\$(0[4-9]|1[0-2])\$[./A-Za-z0-9]*"
-    rb"|\$(apr1|1|5|6)\$[./A-Za-z0-9]{0,16}\$[./A-Za-z0-9]*|\{(SHA|SSHA|PLAIN)\}[!-~]*"
-    rb"|[./A-Za-z0-9]{13})(:[ -~]*)?|#[^\0-\x1f]*|")
 _SITE = "etc/nginx/sites-available/rooms"
 _ROOM = re.compile(r"etc/rooms/[^/]+\.conf", re.DOTALL)
 
@@ -208,7 +203,7 @@ def _look_at(tar: Tar, member: tarfile.TarInfo, data: bytes) -> File:
 def _passwords(name: str, data: bytes) -> bytes:
     """The lines that are one of a user."""
     rows = data.split(b"\n")
-    good = [row for row in rows if len(row) <= 1000 and _PASSWORD.fullmatch(row)]
+    good = [row for row in rows if passwords.can_be_tried(row)]
     if len(good) < len(rows):
         say(f"left out: {len(rows) - len(good)} lines of /{name}, which nginx can't try, or not in "
             "a moment: give these users new passwords")

@@ -4,10 +4,9 @@ import argparse
 import csv
 import json
 import os
-import re
 import unicodedata
 
-from ..cli import shared, words
+from ..cli import signs, words
 from ..host import locks, safe
 from ..room import dump, known, names, passwords, published, settings
 from ..room.known import Known
@@ -16,8 +15,6 @@ from ..room.settings import Room
 
 FILE = "people.json"
 _LONGEST = 200
-# They would turn the rest of a sentence round.
-_TURNING = re.compile(f"[{shared.table('invisible_signs')['turning']}]")
 
 
 def write(room: Room, what: Known | None) -> list[str]:
@@ -98,7 +95,7 @@ def _why_not(row: list[str], found: dict[str, str]) -> str:
         return f"is a second one of {row[0]}"
     if len(row[1]) > _LONGEST:
         return f"has a name of more than {_LONGEST} characters"
-    if _TURNING.search(row[1]) or any(
+    if signs.turns(row[1]) or any(
             unicodedata.category(one) in ("Cc", "Cs", "Zl", "Zp") for one in row[1]):
         return "has a sign in its name that can't be shown"
     return ""

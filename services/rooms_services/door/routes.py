@@ -2,15 +2,15 @@
 from collections.abc import Callable
 from dataclasses import dataclass
 
-from .ask.answers import Answer, Stop
+from ..room.answers import Answer, Stop
 from .folders.archive import archive
 from .folders.below import below
 from .folders.closed import closed
 from .folders.find import find
 from .folders.goes import goes
-from .folders.matched import condition_of, read, replace, tag
-from .ask.paths import Names, chosen_in, names_in
-from .ask.room import Room
+from .folders.matched import condition_of, read, replace, tag_alone
+from ..room.paths import Names, chosen_in, names_in
+from ..room.room import Room
 
 PREFIX = "/door/"
 # What may take long, each with its kind.
@@ -31,6 +31,9 @@ class Asked:
     # The value of a field of the head, or nothing.
     field: Callable[[str], str]
     body: bytes
+
+    def conditions(self) -> tuple[str, str]:
+        return self.field("If-Match"), self.field("If-None-Match")
 
 
 Route = Callable[[Asked], Answer]
@@ -58,16 +61,16 @@ def _zip(asked: Asked) -> Answer:
 
 
 def _read(asked: Asked) -> Answer:
-    return read(asked.room, asked.user, asked.route, asked.names)
+    return read(asked.room, asked.user, asked.route, asked.names, *asked.conditions())
 
 
 def _tag(asked: Asked) -> Answer:
-    return tag(asked.room, asked.user, asked.route, asked.names)
+    return tag_alone(asked.room, asked.user, asked.route, asked.names, *asked.conditions())
 
 
 def _replace(asked: Asked) -> Answer:
     return replace(asked.room, asked.user, asked.route, asked.names, asked.body,
-                   condition_of(asked.field("If-Match"), asked.field("If-None-Match")))
+                   condition_of(*asked.conditions()))
 
 
 _MATCHED: dict[str, Route] = {"GET": _read, "HEAD": _tag, "PUT": _replace}

@@ -11,10 +11,10 @@ import threading
 import traceback
 from urllib.parse import urlsplit
 
-from .ask.answers import TEXT, Answer, Stop, reason
-from .ask.room import LARGEST, USER, Room
+from ..room.answers import TEXT, Answer, Stop, reason
+from ..room.room import LARGEST, USER, Room
 from .routes import LONG_ROUTES, PREFIX, Asked, route_of
-from .ask.turns import Users
+from ..room.turns import Users
 from .webdav.calls import Drive
 from .webdav.kept import Kept
 from .webdav.methods import LONG_METHODS, answer

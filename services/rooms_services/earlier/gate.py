@@ -5,7 +5,7 @@ from dataclasses import dataclass
 
 from rooms_admin.host import locks
 
-from ..door.ask.answers import Stop
+from ..room.answers import Stop
 
 SOCKET = os.path.join(locks.RUN, "rooms-nights/socket")
 LISTED, OPENED = 20.0, 125.0

@@ -15,10 +15,10 @@ from rooms_admin.host import locks
 from rooms_admin.room import names
 
 from .. import listening, scgi
-from ..door.ask.answers import Answer, Stop, reason, told
-from ..door.ask.paths import Names, chosen_in, names_in
-from ..door.ask.room import Room
-from ..door.ask.turns import Users
+from ..room.answers import Answer, Stop, told
+from ..room.paths import Names, chosen_in, names_in
+from ..room.room import Room
+from ..room.turns import Users
 from . import gate
 from .judging import LISTED, Look
 from .whole import archive
@@ -121,32 +121,24 @@ class Judge:
             with self.answered(scgi.asked(connection.recv, 0)[0]) as answer:
                 connection.settimeout(65)
                 is_begun = True
-                connection.sendall(_as_scgi(answer).text())
+                connection.sendall(scgi.written(answer))
                 for part in answer.parts or ():
                     connection.sendall(part)
             return
-        except scgi.Answer as refused:
-            given = refused
         except Stop as stop:
-            given = _as_scgi(stop.answer(False))
+            given = stop
         except OSError:
             raise
         except Exception as fault:  # One request ends nothing for others.
             say(f"failed: {type(fault).__name__}: {fault}")
             traceback.print_exc()
-            given = scgi.Answer("500 Internal Server Error", "store")
+            given = Stop(500, "store")
         if is_begun:
             # A ZIP without its end is none.
-            say(f"a download was broken off: {given.why or given.status}")
+            say(f"a download was broken off: {given.why}")
             return
         connection.settimeout(65)
-        connection.sendall(given.text())
-
-
-def _as_scgi(answer: Answer) -> scgi.Answer:
-    return scgi.Answer(f"{answer.status} {reason(answer.status)}", body=answer.body,
-                       kind=answer.kind, has_length=answer.parts is None,
-                       fields=tuple(f"{name}: {text}" for name, text in answer.fields.items()))
+        connection.sendall(scgi.written(given.answer(False)))
 
 
 def run() -> int:

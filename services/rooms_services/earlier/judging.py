@@ -11,9 +11,9 @@ own there would be asked for."""
 from collections.abc import Callable, Iterator
 from dataclasses import dataclass
 
-from ..door.ask.answers import JSON, TEXT, Answer, Stop, written
-from ..door.ask.paths import Names, is_below
-from ..door.ask.room import Reply, Room, about, listed
+from ..room.answers import JSON, TEXT, Answer, Stop, written
+from ..room.paths import Names, is_below
+from ..room.room import Reply, Room, about, listed
 from .gate import Opened
 
 # Bytes of a listing, which is of 100,000 names and more: this process serves all rooms.

@@ -5,9 +5,9 @@ from collections import deque
 from collections.abc import Callable, Iterator
 from dataclasses import dataclass
 
-from ..door.ask.answers import Answer, Stop, in_pieces
-from ..door.ask.paths import Names, shown
-from ..door.ask.room import Denials, Reply, ended, listed, too_many
+from ..room.answers import Answer, Stop, in_pieces
+from ..room.paths import Names, shown
+from ..room.room import Denials, Reply, ended, listed, too_many
 from ..door.folders.archive import LEFT_OUT, SECONDS, Taken, headed, safe_name
 from ..door.folders.walk import SECONDS as LOOKING
 from ..door.folders.walk import too_late

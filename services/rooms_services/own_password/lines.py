@@ -6,10 +6,11 @@ from collections.abc import Iterator
 from contextlib import contextmanager
 from dataclasses import dataclass
 
-from rooms_admin.cli.report import Stop
+from rooms_admin.cli import report
 from rooms_admin.host import locks
 
-from ..scgi import Answer, not_understood
+from ..room.answers import Stop
+from ..scgi import not_understood
 
 SOCKET = os.path.join(locks.RUN, "rooms-own-password/file")
 _PATIENCE = 10.0
@@ -34,13 +35,13 @@ class Lines:
         self._asking.sendall(b" ".join(words) + b"\n")
         said = self._source.readline(_LONGEST).rstrip(b"\n")
         if said == b"none":
-            raise Answer("404 Not Found", "not-here")
+            raise Stop(404, "not-here")
         if said == b"busy":
-            raise Answer("503 Service Unavailable", "busy")
+            raise Stop(503, "busy")
         if said == b"refused":
             raise not_understood()
         if said in (b"", b"failed"):
-            raise Stop("the file of passwords can't be read or written")
+            raise report.Stop("the file of passwords can't be read or written")
         return said
 
     def of(self, room: str, user: str) -> Found | None:
@@ -53,7 +54,7 @@ class Lines:
     def put(self, room: str, user: str, before: Found, hashed: bytes) -> None:
         """In the place of the line that was found, if it is still that one."""
         if self._said(b"put", room.encode(), user.encode(), before.digest, hashed) != b"done":
-            raise Answer("409 Conflict", "changed")
+            raise Stop(409, "changed")
 
 
 @contextmanager

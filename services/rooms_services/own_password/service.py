@@ -7,11 +7,13 @@ import json
 import os
 import time
 
-from rooms_admin.cli.report import Refused, Stop, say
+from rooms_admin.cli import report
+from rooms_admin.cli.report import say
 from rooms_admin.host import commands, safe
 from rooms_admin.room import names, password_rules, passwords
 
-from ..scgi import Answer, asked, not_understood
+from ..room.answers import Answer, Stop
+from ..scgi import asked, not_understood, written
 from . import lines, tries
 
 # The body has two passwords with escapes.
@@ -42,7 +44,7 @@ def is_right(hashed: bytes, password: str) -> bool:
             done = commands.run(["htpasswd", "-vi", f"/proc/self/fd/{number}", "user"],
                                 f"{password}\n".encode(), pass_fds=(number,))
         except OSError as fault:
-            raise Stop(f"no htpasswd: {fault.strerror}") from fault
+            raise report.Stop(f"no htpasswd: {fault.strerror}") from fault
     return done.status == 0
 
 
@@ -65,9 +67,9 @@ def _change(files: lines.Lines, room: str, user: str, old: str, new: str) -> Non
         else:
             wrong.clear()
     if not right or found is None:
-        raise Answer("403 Forbidden", "old")
+        raise Stop(403, "old")
     if why := password_rules.fault_of(user, old, new):
-        raise Answer("422 Unprocessable Entity", why)
+        raise Stop(422, why)
     files.put(room, user, found, passwords.hashed(new))
 
 
@@ -76,19 +78,19 @@ def answer(source: int) -> Answer:
         fields, body = asked(lambda count: os.read(source, count), BODY)
         if fields.get("CONTENT_TYPE", "").partition(";")[0].strip() != "application/json":
             # No form of another site's has this type.
-            raise Answer("415 Unsupported Media Type", "type")
+            raise Stop(415, "type")
         change(fields.get("ROOM", ""), fields.get("ROOM_USER", ""), *words_of(body))
-    except Answer as given:
-        return given
-    except (Refused, Stop, OSError) as fault:
+    except Stop as stop:
+        return stop.answer(False)
+    except (report.Stop, OSError) as fault:
         say(f"failed: {fault}")
-        return Answer("500 Internal Server Error", "store")
+        return Stop(500, "store").answer(False)
     say(f"{fields['ROOM_USER']} of {fields['ROOM']} has a new password")
-    return Answer("204 No Content")
+    return Answer(204)
 
 
 def run() -> int:
     os.umask(0o027)
     os.chdir("/")
-    safe.write_all(1, answer(0).text())
+    safe.write_all(1, written(answer(0)))
     return 0

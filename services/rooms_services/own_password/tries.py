@@ -8,7 +8,7 @@ from contextlib import contextmanager
 
 from rooms_admin.host import locks, safe
 
-from ..scgi import Answer
+from ..room.answers import Stop
 
 FOLDER = os.path.join(locks.RUN, "rooms-own-password/tries")
 # Wrong ones of a user's, and for how many seconds each counts.
@@ -28,13 +28,13 @@ def counted(room: str, user: str, line: bytes) -> Iterator[list[float]]:
                      0o600)
     with safe.opened(number):
         if not locks.taken(number, PATIENCE):
-            raise Answer("503 Service Unavailable", "busy")
+            raise Stop(503, "busy")
         now = time.time()
         wrong = [float(one) for one in os.read(number, 4096).split()]
         # A clock that was set back leaves moments to come.
         wrong = [one for one in wrong if 0 <= now - one < COUNTS]
         if len(wrong) >= WRONG:
-            raise Answer("429 Too Many Requests", "tries")
+            raise Stop(429, "tries")
         yield wrong
         os.ftruncate(number, 0)
         # Rounded down: what lay in the future wouldn't count.

@@ -19,8 +19,7 @@ LONGEST, LINES = 400, 2
 # How long root's own change may take, which holds the folder for some milliseconds.
 PATIENCE = 5.0
 _ASKED = re.compile(rb"(?:line|put) ([a-z0-9-]+) ([!-~]+)"
-                    rb"(?: ([0-9a-f]{64}) (\$2y\$%b\$[./A-Za-z0-9]{53}))?\n"
-                    % passwords.COST.encode())
+                    rb"(?: ([0-9a-f]{64}) (%b))?\n" % passwords.MADE)
 
 
 def _digest(line: passwords.Line) -> bytes:

@@ -7,9 +7,11 @@ import unicodedata
 from collections.abc import Iterable, Iterator
 from urllib.parse import quote
 
-from ..ask.answers import Answer, in_pieces
-from ..ask.paths import Names
-from ..ask.room import Ask, Reply, Room, ended
+from rooms_admin.cli import signs
+
+from ...room.answers import Answer, in_pieces
+from ...room.paths import Names
+from ...room.room import Ask, Reply, Room, ended
 from .walk import Node, Step, Walk, refuse_long, top_of
 from .zipped import Writer
 
@@ -18,14 +20,14 @@ ROW_OF_DOCUMENTS = 4
 SECONDS = 3600.0
 LEFT_OUT = "not in this ZIP.txt"
 # What some system takes for the end of a folder's name, for a device, a command or the end of a
-# name, or doesn't show.
-_UNSAFE = re.compile('[\\\\/:;*?"<>|\x00-\x1f\x7f-\x9f\u200e\u200f\u202a-\u202e\u2066-\u2069]')
+# name.
+_UNSAFE = re.compile(r'[\\/:;*?"<>|]')
 _DEVICE = re.compile(r"(con|prn|aux|nul|com[0-9]|lpt[0-9])(\..*)?", re.IGNORECASE)
 
 
 def safe_name(name: str) -> str:
-    """A name that any system takes, and that leads nowhere else."""
-    name = _UNSAFE.sub("_", name)
+    """A name that any system takes and shows, and that leads nowhere else."""
+    name = _UNSAFE.sub("_", signs.laid_open(name))
     if name.endswith((".", " ")):
         name = name[:-1] + "_"
     return "_" + name if _DEVICE.fullmatch(name) else name

@@ -5,10 +5,10 @@ from collections import Counter
 from collections.abc import Iterator
 from typing import NamedTuple
 
-from ..ask import lists
-from ..ask.answers import Answer, told_as_it_comes
-from ..ask.paths import Names
-from ..ask.room import Reply, Room, too_many
+from ...room import lists
+from ...room.answers import Answer, told_as_it_comes
+from ...room.paths import Names
+from ...room.room import Reply, Room, too_many
 from .walk import Node, Step, Walk, refuse_long, top_of
 
 Rest = tuple[Node, bool, int, str | None, str | None]

@@ -1,8 +1,8 @@
 """What is in a folder and can't be opened: documents that the caller may not read, and folders into
 which they see and come no further."""
-from ..ask.answers import Answer, told_as_it_comes
-from ..ask.paths import Names
-from ..ask.room import Reply, Room
+from ...room.answers import Answer, told_as_it_comes
+from ...room.paths import Names
+from ...room.room import Reply, Room
 from .walk import Node, Step, Walk, top_of
 
 

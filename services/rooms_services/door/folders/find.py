@@ -2,9 +2,9 @@
 import unicodedata
 from urllib.parse import unquote_to_bytes
 
-from ..ask.answers import Answer, Stop, told_as_it_comes
-from ..ask.paths import Names
-from ..ask.room import Reply, Room
+from ...room.answers import Answer, Stop, told_as_it_comes
+from ...room.paths import Names
+from ...room.room import Reply, Room
 from .walk import Node, Step, Walk, refuse_long, top_of
 
 LONGEST = 255

@@ -1,8 +1,8 @@
 """What goes with an object that is removed: all below it, and whether the caller may remove it. The
 room removes only empty folders, so whoever removes a folder has to know before."""
-from ..ask.answers import Answer, told_as_it_comes
-from ..ask.paths import Names
-from ..ask.room import Reply, Room
+from ...room.answers import Answer, told_as_it_comes
+from ...room.paths import Names
+from ...room.room import Reply, Room
 from .walk import Node, Step, Walk, refuse_long, top_of
 
 # What it asks of each object: the rights by which it goes, and whether what is in it may be listed.

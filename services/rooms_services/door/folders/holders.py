@@ -1,5 +1,5 @@
 """Whom a list grants a right, by the list alone: who is in which group isn't known here."""
-from ..ask import lists
+from ...room import lists
 
 # These two are everybody who could be meant.
 EVERYBODY = ("EVERYONE@", "AUTHENTICATED@")

@@ -1,14 +1,13 @@
 """A document or a list that is replaced only if it is still the one that was seen. The look and the
 change are sent over one connection, and the room answers nobody else in between: so whatever comes
 from elsewhere comes before the look or after the change."""
-import hashlib
 from dataclasses import dataclass
 
-from ..ask.answers import Answer, Stop
+from ...room.answers import Answer, Stop
 from .holders import holders
-from ..ask.paths import Names, shown
-from ..ask.room import Reply, Room, Talk, about
-from ..ask.tags import tags_in
+from ...room.paths import Names, shown
+from ...room.room import Reply, Room, Talk, about
+from ...room.tags import of_reading, tag_of, tags_in
 
 # Nothing of it is shown as a page of this site, nor kept where somebody else could find it.
 SAFE = {"Content-Disposition": "attachment", "Cache-Control": "private, no-store"}
@@ -16,10 +15,6 @@ SAFE = {"Content-Disposition": "attachment", "Cache-Control": "private, no-store
 CHANGES = {"doc": "wa", "dacl": "C", "sacl": "C"}
 # What it takes to read it.
 READING = {"doc": "r", "dacl": "c", "sacl": "c"}
-
-
-def tag_of(body: bytes) -> str:
-    return f'"{hashlib.sha256(body).hexdigest()}"'
 
 
 @dataclass(frozen=True)
@@ -45,21 +40,31 @@ def condition_of(match: str, none: str) -> Condition:
     return Condition(False, frozenset(tag for weak, tag in named if not weak) or frozenset([""]))
 
 
-def read(room: Room, user: str, route: str, names: Names) -> Answer:
-    reply = room.ask(user, about("GET", route, names))
-    if reply.status != 200:
-        return reply.answer()
+def read(room: Room, user: str, route: str, names: Names, match: str, none: str) -> Answer:
+    with room.talk(user) as talk:
+        reply = talk.ask(about("GET", route, names))
+        if reply.status != 200:
+            return reply.answer()
+        tag = tag_of(reply.body)
+        status = of_reading(match, none, tag)
+        if status == 412:
+            raise _changed(talk, route, names, "changed", reply)
+    fields = {"ETag": tag, **SAFE}
+    if status == 304:
+        return Answer(304, fields=fields)
     kind = "application/octet-stream" if route == "doc" else "text/plain; charset=utf-8"
-    return Answer(200, reply.body, kind, {"ETag": tag_of(reply.body), **SAFE})
+    return Answer(200, reply.body, kind, fields)
 
 
-def tag(room: Room, user: str, route: str, names: Names) -> Answer:
+def tag_alone(room: Room, user: str, route: str, names: Names, match: str, none: str) -> Answer:
     """The same without the bytes, for whoever is about to replace it: it is empty where they may
     not read it, and no record says that they tried."""
     may = room.ask(user, about("GET", "can", names, READING[route]))
     if may.status != 200:
         return may.answer()
-    return read(room, user, route, names) if all(may.rulings().values()) else Answer(204)
+    if not all(may.rulings().values()):
+        return Answer(204)
+    return read(room, user, route, names, match, none)
 
 
 def replace(room: Room, user: str, route: str, names: Names, body: bytes,

@@ -6,9 +6,9 @@ from collections.abc import Callable, Iterable, Iterator
 from dataclasses import dataclass
 from typing import NamedTuple
 
-from ..ask.answers import Stop
-from ..ask.paths import Names, escaped, escaped_name, shown
-from ..ask.room import Ask, Denials, Filling, Reply, Room, Row, listed, too_many
+from ...room.answers import Stop
+from ...room.paths import Names, escaped, escaped_name, shown
+from ...room.room import Ask, Denials, Filling, Reply, Room, Row, listed, too_many
 
 # No request looks at more, or at longer names together, or for longer.
 MOST = 80_000

@@ -3,7 +3,7 @@ from dataclasses import dataclass, field
 from xml.parsers import expat
 from xml.sax.saxutils import escape, quoteattr
 
-from ..ask.answers import Stop
+from ...room.answers import Stop
 
 LARGEST = 65_536
 DEEPEST = 32

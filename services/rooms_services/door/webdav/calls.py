@@ -4,15 +4,15 @@ from collections.abc import Callable, Iterable, Iterator
 from contextlib import contextmanager
 
 from . import objects, trees
-from ..ask.answers import Stop
-from ..ask.paths import Names, shown
-from ..ask.room import LARGEST, Ask, Denials, Reply, Room, Talk, about, rows
-from ..ask.tags import names_tag
+from ...room.answers import Stop
+from ...room.paths import Names, shown
+from ...room.room import LARGEST, Ask, Denials, Reply, Room, Talk, about, rows
+from ...room.tags import names_tag, tag_of
 from .conditions import Condition, Listed, read_if
 from .dates import Dates
 from .kept import Kept
 from .locks import Lock, Locks
-from .objects import Document, Folder, stop_of, tag_of
+from .objects import Document, Folder, stop_of
 from .paths import other_names
 from .tasks import Tasks
 from .trees import Spend
@@ -20,7 +20,7 @@ from .trees import Spend
 # How many bytes the room may answer for the conditions of one request, while it answers nobody
 # else: enough for two documents.
 MOST_COMPARED = 2 * LARGEST + 65_536
-# How many bytes one request copies.
+# How many bytes one request copies, with lists.
 MOST_COPIED = 134_217_728
 
 
@@ -120,9 +120,9 @@ class Drive:
         """A copy is many documents in one request, and the room may be full after a few."""
         left = MOST_COPIED
 
-        def spend(body: bytes) -> None:
+        def spend(size: int) -> None:
             nonlocal left
-            left -= len(body)
+            left -= size
             if left < 0:
                 raise Stop(413, "too-large",
                            f"more than {MOST_COPIED >> 20} MiB: copy it in parts")

@@ -2,7 +2,7 @@
 import re
 from dataclasses import dataclass, field
 
-from ..ask.answers import Stop
+from ...room.answers import Stop
 
 _WORD = re.compile(r'\s*(<[^<>]*>|\(|\)|[Nn][Oo][Tt]|\[(?:W/)?"[^"]*"\])')
 MOST = 100

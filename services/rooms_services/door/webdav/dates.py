@@ -11,7 +11,7 @@ import time
 from collections.abc import Callable
 from email.utils import formatdate
 
-from ..ask.paths import Names, shown
+from ...room.paths import Names, shown
 
 MOST = 50_000
 # What is remembered of a path, whose name may have 4,096 bytes, and of a tag.

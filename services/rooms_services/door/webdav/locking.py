@@ -1,6 +1,6 @@
 """LOCK and UNLOCK."""
 from . import bodies, objects, properties
-from ..ask.answers import Answer, Stop
+from ...room.answers import Answer, Stop
 from .bodies import Node
 from .calls import Call, Drive
 from .locks import Lock, seconds_of

@@ -7,7 +7,7 @@ import uuid
 from collections.abc import Callable
 from dataclasses import astuple, dataclass
 
-from ..ask.paths import Names, is_below, shown
+from ...room.paths import Names, is_below, shown
 from .kept import Kept, NotKept, Row
 
 SHORTEST, USUAL, LONGEST = 10, 600, 3600

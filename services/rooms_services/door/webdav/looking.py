@@ -5,14 +5,14 @@ from collections.abc import Iterator
 from itertools import chain
 
 from . import bodies, objects, properties
-from ..ask.answers import TEXT, Answer, Stop
+from ...room.answers import TEXT, Answer, Stop
 from ..folders.matched import SAFE
-from ..ask.paths import Names
-from ..ask.room import about
-from ..ask.tags import names_tag
+from ...room.paths import Names
+from ...room.room import about
+from ...room.tags import of_reading, tag_of
 from .calls import Call, Drive
 from .locks import Lock
-from .objects import Child, Document, Folder, Measure, stop_of, tag_of
+from .objects import Child, Document, Folder, Measure, stop_of
 from .paths import href
 from .properties import Wanted
 
@@ -54,10 +54,10 @@ def get(drive: Drive, call: Call) -> Answer:
         return Answer(200, b"A folder: open a document in it by its own address.\n", TEXT)
     tag = tag_of(kept)
     fields = {"ETag": tag, "Last-Modified": drive.dates.of(call.names, tag), **_SAFE}
-    match, none = call.field("If-Match"), call.field("If-None-Match")
-    if match and not names_tag(match, tag, False):
+    status = of_reading(call.field("If-Match"), call.field("If-None-Match"), tag)
+    if status == 412:
         raise Stop(412, "changed", "the document isn't the one that the request speaks of")
-    if none and names_tag(none, tag, True):
+    if status == 304:
         return Answer(304, fields=fields)
     wanted = call.field("Range")
     if wanted and (call.field("If-Range") or tag) == tag:

@@ -1,8 +1,8 @@
 """The methods of WebDAV, and how a request comes to them."""
 from collections.abc import Callable
 
-from ..ask.answers import Answer, Stop
-from ..ask.room import Room
+from ...room.answers import Answer, Stop
+from ...room.room import Room
 from . import locking, looking, moving, saving
 from .calls import Call, Drive, asks_for
 from .kept import NotKept

@@ -3,9 +3,9 @@ takes many requests, between which the room answers others, and is reserved mean
 from collections.abc import Callable
 
 from . import objects, properties, tasks, trees
-from ..ask.answers import Answer, Stop
-from ..ask.paths import Names, is_below, shown
-from ..ask.room import Reply, about
+from ...room.answers import Answer, Stop
+from ...room.paths import Names, is_below, shown
+from ...room.room import Reply, about
 from .calls import Call, Drive
 from .objects import Document, Folder, stop_of
 from .tasks import moving
@@ -31,7 +31,8 @@ def _removed(drive: Drive, call: Call, names: Names, reply: Reply) -> list[Failu
     failures: list[Failure] = []
     if reply.why == "not-empty":
         with drive.reserved(call, names):
-            failures = trees.remove(call, trees.removable(call, names, True))
+            failures = tasks.remove(drive.tasks, call, call.user, names,
+                                    trees.removable(call, names, True))
     elif reply.status != 204:
         raise stop_of(reply, {409: 403 if reply.why == "root" else 404})
     if not failures:
@@ -191,8 +192,7 @@ def _copy_folder(drive: Drive, call: Call, to: Names, source: There, target: The
     def fill() -> list[Failure]:
         failures = _filled(drive, call, made, source, found, lambda: _refuse_stuck(call, made))
         if failures:
-            return [((*to, *names[len(to):]), folder, status, text)
-                    for names, folder, status, text in failures]
+            return Found([], failures).at(to).failures
         if target is None:
             reply = call.ask(moving(made, to))
         else:

@@ -5,10 +5,11 @@ from collections.abc import Iterable, Iterator
 from dataclasses import dataclass
 from typing import NamedTuple, Protocol
 
-from ..ask import lists
-from ..ask.answers import Stop
-from ..ask.paths import Names, shown
-from ..ask.room import LARGEST, ROW, Ask, Reply, about, listed
+from ...room import lists
+from ...room.answers import Stop
+from ...room.paths import Names, shown
+from ...room.room import LARGEST, ROW, Ask, Reply, about, listed
+from ...room.tags import tag_of
 
 # Documents, of up to 1 MiB each, that are in memory at once.
 ROW_OF_DOCUMENTS = 8
@@ -47,11 +48,6 @@ class Measure:
     length: int
     tag: str
     sums: str
-
-
-def tag_of(body: bytes) -> str:
-    """Some clients have no room for more."""
-    return f'"{hashlib.sha256(body).hexdigest()[:32]}"'
 
 
 def measure(body: bytes, with_sums: bool) -> Measure:
@@ -135,10 +131,20 @@ def may(by: Asks, names: Names, bits: str) -> None:
         raise Stop(403, "denied", f"denied: {bits} at {shown(names)}")
 
 
-def has_own_list(by: Asks, names: Names) -> bool:
-    """Whether a list of rights or of records was set at the object itself, as far as the caller may
-    read it."""
+def _lists(by: Asks, names: Names) -> list[bytes]:
+    """Those of rights and of records, as far as the caller may read them."""
     if not by.ask(about("GET", "can", names, "c")).rulings().get("c"):
-        return False
-    return any(reply.status == 200 and lists.read(reply.body.decode()).is_own for reply in by.row(
-        [about("GET", which, names) for which in ("dacl", "sacl")]))
+        return []
+    return [reply.body for reply in by.row(
+        [about("GET", which, names) for which in ("dacl", "sacl")]) if reply.status == 200]
+
+
+def has_own_list(by: Asks, names: Names) -> bool:
+    """Whether one was set at the object itself."""
+    return any(lists.read(body.decode()).is_own for body in _lists(by, names))
+
+
+def length_of_lists(by: Asks, names: Names) -> int:
+    """In bytes. Those that can't be read may be as long as any."""
+    found = _lists(by, names)
+    return sum(map(len, found)) if len(found) == 2 else LARGEST

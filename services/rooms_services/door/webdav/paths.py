@@ -1,8 +1,8 @@
 """Addresses of WebDAV: what a client wrote, and what it is told."""
 from urllib.parse import urlsplit
 
-from ..ask.answers import Stop
-from ..ask.paths import Names, escaped, names_in
+from ...room.answers import Stop
+from ...room.paths import Names, escaped, names_in
 
 ROUTE = "/drive/"
 

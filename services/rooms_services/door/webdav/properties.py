@@ -3,11 +3,11 @@ import mimetypes
 from collections.abc import Iterable, Iterator, Sequence
 from dataclasses import dataclass
 
-from ..ask.answers import Answer, Stop, in_pieces, reason
+from ...room.answers import Answer, Stop, in_pieces, reason
 from .bodies import DAV, Node, Tag, element, legal
 from .locks import Lock
 from .objects import Measure
-from ..ask.paths import Names
+from ...room.paths import Names
 from .paths import href
 from .trees import Failure
 

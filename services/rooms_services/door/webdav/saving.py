@@ -1,10 +1,11 @@
 """PUT, MKCOL and PROPPATCH."""
 from . import bodies, properties
-from ..ask.answers import Answer, Stop
-from ..ask.room import about
+from ...room.answers import Answer, Stop
+from ...room.room import about
+from ...room.tags import tag_of
 from .bodies import DAV
 from .calls import Call, Drive
-from .objects import Folder, stop_of, tag_of, too_large
+from .objects import Folder, stop_of, too_large
 from .paths import href
 
 

@@ -9,9 +9,9 @@ from collections.abc import Callable, Iterator
 from contextlib import contextmanager
 from dataclasses import dataclass
 
-from ..ask.answers import Stop
-from ..ask.paths import Names, shown
-from ..ask.room import Ask, Reply, about
+from ...room.answers import Stop
+from ...room.paths import Names, shown
+from ...room.room import Ask, Reply, about
 from . import trees
 from .kept import Kept, Row
 from .objects import Asks
@@ -34,8 +34,8 @@ def moving(names: Names, to: Names) -> Ask:
 
 @dataclass(frozen=True)
 class Task:
-    """`made` is a copy that isn't in its place. Or `made` takes the place of what is there, which
-    stands aside as `old` meanwhile."""
+    """`made` isn't in its place, and goes: a part of a copy, or what is removed. Or `made` takes
+    the place of what is there, which stands aside as `old` meanwhile."""
     user: str
     made: Names
     place: Names | None = None
@@ -139,6 +139,27 @@ def replace(tasks: Tasks, by: Asks, user: str, place: Names, made: Names) -> tup
             by.ask(moving(old, place))
             return reply, []
         return reply, _gone(by, old)
+
+
+def remove(tasks: Tasks, by: Asks, user: str, top: Names, found: trees.Found
+           ) -> list[trees.Failure]:
+    """A folder with all that was found in it: out of its place first, so that it is gone at once or
+    stays. Who may not add there removes it piece by piece."""
+    if found.failures or not by.ask(about("GET", "can", top[:-1], "a")).rulings().get("a"):
+        return trees.remove(by, found)
+    old = beside(top, "old")
+    with tasks.noted(Task(user, old)):
+        if by.ask(moving(top, old)).status != 204:
+            return trees.remove(by, found)
+        try:
+            failures = trees.remove(by, found.at(old))
+        except Stop as stop:
+            if stop.status not in AWAY:
+                by.ask(moving(old, top))
+            raise
+        if failures:
+            by.ask(moving(old, top))
+        return trees.Found([], failures).at(top).failures
 
 
 def away(tasks: Tasks, by: Asks, user: str, made: Names,

@@ -4,16 +4,16 @@ all is done or nothing, unless somebody changes rights or things in between."""
 from collections.abc import Callable
 from dataclasses import dataclass
 
-from ..ask.answers import Stop
-from ..ask.paths import Names
-from ..ask.room import Reply, about
+from ...room.answers import Stop
+from ...room.paths import Names, shown
+from ...room.room import Reply, about
 from ..folders.goes import barrier
-from .objects import Asks, children_of, stop_of
+from .objects import Asks, children_of, length_of_lists, stop_of
 
 MOST = 10_000
 Failure = tuple[Names, bool, int, str]
-# What is called with the bytes of each document before it is written.
-Spend = Callable[[bytes], None]
+# What is called with how many bytes an object takes, before it is made.
+Spend = Callable[[int], None]
 
 
 @dataclass
@@ -21,6 +21,14 @@ class Found:
     """All below a folder, each after the folder that it is in, and what can't be listed."""
     objects: list[tuple[Names, bool]]
     failures: list[Failure]
+
+    def at(self, place: Names) -> "Found":
+        """The same, once the folder is at another place that is as deep."""
+        deep = len(place)
+        return Found([((*place, *names[deep:]), folder) for names, folder in self.objects], [
+            ((*place, *names[deep:]), folder, status,
+             text.replace(shown(names[:deep]), shown(place)))
+            for names, folder, status, text in self.failures])
 
 
 def walk(by: Asks, top: Names) -> Found:
@@ -88,16 +96,20 @@ def readable(by: Asks, top: Names) -> Found:
 
 def copy(by: Asks, found: Found, to: Names, begun: Callable[[], None], spend: Spend
          ) -> list[Failure]:
-    """`begun` is called once the folder itself is there."""
+    """`begun` is called once the folder itself is there. What is made in it has no longer lists
+    than it has: they may take more than the documents."""
     top = found.objects[0][0]
+    lists = 0
     for names, folder in found.objects:
         place = to + names[len(top):]
+        spend(lists)
         reply = by.ask(about("POST", "folder", place)) if folder else \
             copy_one(by, names, place, spend)
         if names == top:
             if reply.status != 201:
                 raise stop_of(reply, {404: 409})
             begun()
+            lists = length_of_lists(by, to)
         elif reply.status not in (201, 204):
             return [(place, folder, reply.status, reply.text())]
     return []
@@ -107,5 +119,5 @@ def copy_one(by: Asks, names: Names, to: Names, spend: Spend) -> Reply:
     reply = by.ask(about("GET", "doc", names))
     if reply.status != 200:
         return reply
-    spend(reply.body)
+    spend(len(reply.body))
     return by.ask(about("PUT", "doc", to, body=reply.body))

@@ -1,9 +1,16 @@
-"""Entity tags as the fields If-Match and If-None-Match name them (RFC 9110 section 13.1)."""
+"""Entity tags: of documents and lists, and as the fields If-Match and If-None-Match name them (RFC
+9110 sections 8.8.3 and 13)."""
+import hashlib
 import re
 
 from .answers import Stop
 
 _NEXT = re.compile(r'[ \t,]*(?:(W/)?("[\x21\x23-\x7e\x80-\xff]*")[ \t]*(?=,|$))?')
+
+
+def tag_of(body: bytes) -> str:
+    """By whatever address it is read. Some clients have no room for more."""
+    return f'"{hashlib.sha256(body).hexdigest()[:32]}"'
 
 
 def tags_in(text: str) -> list[tuple[bool, str]] | None:
@@ -28,3 +35,10 @@ def names_tag(text: str, tag: str, weakly: bool) -> bool:
     """Whether the field means what has this tag. A weak one is the same only if it may be."""
     named = tags_in(text)
     return named is None or any(one == tag and (weakly or not weak) for weak, one in named)
+
+
+def of_reading(match: str, none: str, tag: str) -> int:
+    """The status of what has this tag, and may be read: 200, 304 or 412."""
+    if match and not names_tag(match, tag, False):
+        return 412
+    return 304 if none and names_tag(none, tag, True) else 200
