@@ -217,6 +217,8 @@ class Night:
         finally:
             os.close(out)
         self.unread |= word == "audit" and "fault: database" in text
+        if word == "audit" and (status < 0 or "fault: memory" in text):
+            text += "; each record takes 525 bytes of memory"
         tidying.remove_unfinished(self.kept)
         self.failed(f"{word} of the copy failed, status {status}: {text}; the backup {self.kept} "
                     f"is sound, but it has no {name}")
