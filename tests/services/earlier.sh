@@ -338,7 +338,7 @@ holds "alice waits for $takes s" awk -v took="$takes" 'BEGIN { exit !(took < 5) 
 # More than all may have.
 sleep 1.1
 copy_night "$two" 2026-11-30.030000 30
-truncate -s 600M backups/office/2026-11-30.030000/office.rooms-wal
+truncate -s 900M backups/office/2026-11-30.030000/office.rooms-wal
 ask 'a night that needs too much' 503 '{"why":"large"}' bob:b \
   /earlier/2026-11-30.030000/doc/letters/reply
 
