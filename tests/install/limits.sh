@@ -113,6 +113,16 @@ done
 wait "$going"
 holds "alice is answered $met of 20 times beside 1,000 that leave at once" [ "$met" = 20 ]
 
+# Whoever is denied has no more than a pace: each may leave a record.
+limits pace "$front" bob:b /dacl/plan 2600 >met &
+going=$!
+sleep 1
+ask 'alice goes on meanwhile' 200 x alice:a /doc/plan
+wait "$going"
+holds "bob is denied $(cat met)" grep -Eq '^403: [0-9]+, and then [0-9]+$' met
+holds 'a hundred a second once he had two thousand' \
+  awk '{ exit !($NF > 100 && $NF <= 600) }' met
+
 # Listings wait on the disk, those of one user so many at once.
 printf -v name '%120s' ''
 ask 'a folder of many' 201 '' alice:a /folder/many -X POST

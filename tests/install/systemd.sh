@@ -23,19 +23,19 @@ holds 'at four' grep -q ' 04:00:00 ' "$work/out"
 # Who reaches what: the folder of a socket is passed through by nginx alone, and a port is closed to
 # others.
 does 'the folder for its socket' 'stat -c "%U %G %a" /run/rooms /run/rooms/office'
-printf '%s\n' 'root root 755' 'rooms www-data 710' >wanted
-same 'is for it and nginx' "$work/out" wanted
+printf '%s\n' 'root root 755' 'root www-data 710' >wanted
+same 'is for nginx' "$work/out" wanted
 does 'who gets there' 'for user in root www-data rooms nobody; do
   ! setpriv --reuid=$user --regid=$(id -g $user) --clear-groups curl -s -o /dev/null \
     --unix-socket /run/rooms/office/socket "http://localhost/can/?" || echo $user
   done; ! (exec 3<>/dev/tcp/127.0.0.1/8780) 2>/dev/null'
-printf '%s\n' root www-data rooms >wanted
-same 'are root, nginx and its own user, and there is no port' "$work/out" wanted
+printf '%s\n' root www-data >wanted
+same 'are root and nginx, and there is no port' "$work/out" wanted
 # What lies on the disk: who else than root reads it.
 does 'a backup, and a key' 'systemctl start rooms-nightly@office
   : >/etc/rooms/passwords.key; chmod 600 /etc/rooms/passwords.key'
 does 'who reads what' 'for user in nobody www-data rooms rooms-passwords rooms-mail rooms-door \
-  rooms-backup rooms-night rooms-earlier; do
+  rooms-backup rooms-night rooms-earlier rooms-wait; do
   for file in /var/lib/rooms/office.rooms /var/backups/rooms/office/2*/office.rooms \
     /var/backups/rooms/office/2*/machine.tar /var/lib/rooms-passwords/rooms.htpasswd \
     /etc/rooms/passwords.key /var/lib/rooms-web/office/people.json /etc/shadow; do
@@ -177,7 +177,9 @@ does 'what checks passwords' \
 holds 'asks for the table first' grep -qx 2 "$work/out"
 # A version before: its server has the port itself, and its settings no line for a socket.
 does 'a server of a version before' 'unit=/etc/systemd/system/rooms@office.service.d
-  mkdir $unit && printf "%s\n" "[Service]" ExecStart= ExecStartPost= PrivateNetwork=no \
+  systemctl stop rooms@office
+  mkdir $unit && printf "%s\n" "[Service]" ExecStart= ExecStartPost= ExecStop= ExecStopPost= \
+    PrivateNetwork=no \
     "ExecStart=/usr/bin/rooms serve \${FILE} --port 8780 --count 1000" \
     "RestrictAddressFamilies=AF_INET AF_UNIX" IPAddressAllow=localhost >$unit/before.conf
   echo PORT=8780 >>/etc/rooms/office.conf; systemctl daemon-reload

@@ -71,6 +71,9 @@ does 'a port for the room' 'echo PORT=8780 >>/etc/rooms/office.conf && rooms-adm
   systemctl restart rooms@office'
 probed 'in the place of what listens at a port' rooms-port@office \
   'write /var/tmp' 'ask /run/rooms/office/socket' 'ask /run/rooms/invoices/socket'
+# (Whom the room's socket leads to doesn't matter: it may be asked.)
+probed 'in the place of who waits' rooms-wait@office \
+  'write /var/tmp' 'ask /run/rooms/office/socket'
 probed 'in the place of what sends mail' rooms-tell@probe \
   'read /etc/rooms/office.conf' 'read /etc/nginx/nginx.conf' 'list /var/log/nginx' \
   'write /var/tmp' 'write /dev/shm' 'ask /run/dbus/system_bus_socket' 'ask 127.0.0.1:80' \

@@ -4,6 +4,9 @@
                                             is typed; prints how many bytes were sent
     limits.py names PORT SECONDS            the same by HTTP/2, where a field that was sent once is
                                             named by one byte; prints how many requests there were
+    limits.py pace PORT WHO TARGET NUMBER   by eight connections as fast as they are answered;
+                                            prints with which statuses so many were, and how many
+                                            more in the next five seconds
     limits.py goes PORT WHO TARGET NUMBER   so many requests, whose senders are gone at once
     limits.py holds PORT WHO TARGET NUMBER  as many that nobody reads, until standard input ends;
                                             prints how many were answered with each status
@@ -104,6 +107,34 @@ def goes(port, who, target, number):
             one.sendall(request(target, who))
 
 
+def answered_by(port, who, target, met, ends):
+    """One request after the other, until the event."""
+    with connected(port) as one, one.makefile("rb") as lines:
+        while not ends.is_set():
+            one.sendall(request(target, who))
+            status, length = lines.readline(), 0
+            while (field := lines.readline()) not in (b"\r\n", b""):
+                if field.lower().startswith(b"content-length:"):
+                    length = int(field[15:])
+            lines.read(length)
+            met.append(status[9:12].decode())
+
+
+def pace(port, who, target, number):
+    met, ends = [], threading.Event()
+    for _ in range(8):
+        threading.Thread(target=answered_by, args=(port, who, target, met, ends),
+                         daemon=True).start()
+    while len(met) < int(number):
+        time.sleep(0.01)
+    first = len(met)
+    time.sleep(5)
+    more = len(met) - first
+    ends.set()
+    statuses = " ".join(f"{status}: {count}" for status, count in sorted(Counter(met).items()))
+    print(f"{statuses}, and then {more}")
+
+
 def holds(port, who, target, number):
     held, met = selectors.DefaultSelector(), Counter()
     for _ in range(int(number)):
@@ -124,4 +155,4 @@ def holds(port, who, target, number):
     sys.stdin.read()
 
 
-{"log": log, "names": names, "goes": goes, "holds": holds}[sys.argv[1]](*sys.argv[2:])
+{"log": log, "names": names, "goes": goes, "holds": holds, "pace": pace}[sys.argv[1]](*sys.argv[2:])

@@ -110,8 +110,8 @@ start() { # NAME
   settings=${settings//%i/${1#*@}}
   mapfile -t settings < <(grep '^FILE=' "$settings")
   for one in "${settings[@]}"; do export "$one"; done
-  rm -rf "/run/rooms/${1#*@}"
-  install -d -o rooms -g rooms -m 710 "/run/rooms/${1#*@}"
+  rm -rf "/run/rooms/${1#*@}" "/run/rooms-server/${1#*@}"
+  install -d -o rooms -g rooms -m 710 "/run/rooms/${1#*@}" "/run/rooms-server/${1#*@}"
   eval "set -- \"$1\" $(command_of "$1")"
   env "${settings[@]}" setpriv --reuid=rooms --regid=rooms --clear-groups "${@:2}" \
     >"/run/$1.line" 2>"/run/$1.fault" </dev/null &
@@ -150,7 +150,7 @@ stop() { # NAME
   port stop "${1#*@}"
   ! alive "$1" || kill -9 "$(cat "/run/$1.pid")"
   while alive "$1"; do sleep 0.02; done
-  rm -rf "/run/rooms/${1#*@}"
+  rm -rf "/run/rooms/${1#*@}" "/run/rooms-server/${1#*@}"
 }
 all() { # NAME: it, or those that run
   if [ "$1" = 'rooms@*' ]; then

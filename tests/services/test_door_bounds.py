@@ -8,12 +8,13 @@ import time
 import tracemalloc
 import unittest
 import zipfile
+from contextlib import suppress
 from unittest import mock
 from xml.etree import ElementTree
 
 from fake_room import FakeRoom
 from over import Over
-from rooms_services.room import answers
+from rooms_services.room import answers, room
 from rooms_services.room.answers import Stop
 from rooms_services.room.room import listed
 from rooms_services.door.folders import archive, walk, zipped
@@ -140,15 +141,19 @@ class Denied(Over):
     def test_folders_that_can_t_be_listed(self) -> None:
         self.room.denied |= {("alice", f"/f/{number}", "r") for number in range(1500)}
         for method in ("DELETE", "COPY"):
-            self.denied = 0
+            self.denied, self.door.room.denials = 0, room.Denials()
             self.assertEqual(self.ask(method, "/drive/f", Destination="/drive/g")[0], 413)
             self.assertTrue(1000 <= self.denied <= 1000 + 2 * 64, self.denied)
+            # Another request of theirs has only what came back meanwhile.
+            self.denied = 0
+            self.assertEqual(self.ask(method, "/drive/f", Destination="/drive/g")[0], 413)
+            self.assertTrue(self.denied < 500, self.denied)
         self.assertEqual(len(self.room.objects), 1502)
 
     def test_what_is_closed_in_between(self) -> None:
         for target in ("find/f?zzz", "below/f", "zip/f", "closed/f"):
             self.room.denied.clear()
-            self.denied = 0
+            self.denied, self.door.room.denials = 0, room.Denials()
             listing = self.room._get_folder
 
             def closes(*given: object) -> tuple[int, object]:
@@ -157,6 +162,33 @@ class Denied(Over):
             with mock.patch.object(self.room, "_get_folder", closes):
                 self.assertEqual(self.told(f"/door/{target}"), (413, {"why": "too-many"}))
             self.assertTrue(1000 <= self.denied <= 1000 + 2 * 64, self.denied)
+
+    def test_in_the_long_run(self) -> None:
+        now = [1000.0]
+        closed = room.Reply(403, b"")
+        with mock.patch.object(room, "MOST_USERS", 3):
+            denials = room.Denials(5, 2.0, lambda: now[0])
+
+            def goes_on(user: str) -> int:
+                count = 0
+                with suppress(Stop):
+                    while count < 100:
+                        denials.note(user, closed)
+                        count += 1
+                return count
+
+            self.assertEqual(goes_on("alice"), 5)
+            self.assertEqual(goes_on("alice"), 0)
+            self.assertEqual(goes_on("bob"), 5)
+            now[0] += 1.5
+            self.assertEqual(goes_on("alice"), 3)
+            denials.note("alice", room.Reply(200, b""))
+            now[0] += 60
+            for number in range(50):
+                denials.note(f"user{number}", closed)
+                now[0] += 1
+            self.assertLess(len(denials._left), 5)
+            self.assertEqual(goes_on("alice"), 5)
 
 
 class Rows(Over):

@@ -13,7 +13,7 @@ from unittest import mock
 
 from fake_room import FakeRoom, Served
 from rooms_admin.host import locks
-from rooms_admin.room import backups
+from rooms_admin.room import backups, needs
 from rooms_services import scgi
 from rooms_services.room.answers import Answer, Stop
 from rooms_services.room import turns
@@ -471,6 +471,27 @@ class Said(unittest.TestCase):
             with self.assertRaises(Stop) as stopped:
                 gate.nights("office")
             self.assertEqual(stopped.exception.why, "no-earlier")
+
+    def test_what_a_night_needs(self) -> None:
+        """By its bytes, or what its start took, if that was more; of an hourly copy the last
+        night's."""
+        room = nights.Nights("office", "F", "", "", "", "")
+        with tempfile.TemporaryDirectory() as home, \
+                mock.patch.object(needs, "FOLDER", f"{home}/needs"):
+            for night in (NIGHT, "2026-11-02.030000", "2026-11-02.130000"):
+                os.mkdir(f"{home}/{night}")
+                with open(f"{home}/{night}/F", "wb") as file:
+                    file.truncate(48 << 20)
+
+            def needed(night: str) -> int:
+                return nights.megabytes(room, f"{home}/{night}")
+
+            self.assertEqual(needed(NIGHT), 48 + 48 + 16 + 3)
+            needs.put("office", needs.Need(NIGHT, 48, 282))
+            needs.put("office", needs.Need("2026-11-02.030000", 48, 60))
+            self.assertEqual(needed(NIGHT), 282)
+            self.assertEqual(needed("2026-11-02.030000"), 115)
+            self.assertEqual(needed("2026-11-02.130000"), 115)
 
     def test_moments(self) -> None:
         self.assertTrue(backups.moments(NIGHT))

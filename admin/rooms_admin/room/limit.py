@@ -1,16 +1,17 @@
-"""How much of its file a room may have in use, so that its server can start again. All numbers are
-megabytes, of 1,048,576 bytes."""
+"""How much of its file a room may have in use, so that its server can start again, and the nightly
+run beside it. All numbers are megabytes, of 1,048,576 bytes."""
 import glob
 import re
 
 from ..cli.report import Stop
-from . import machine, settings
+from . import machine, needs, settings
 from .server import systemctl
 from .settings import Room
 
 _SLICE = "rooms.slice"
-# Beside what is in use: the pages that a server keeps, and the program itself.
-_BESIDE = 128 + 16
+# What a start that was measured at night may miss of its memory; and what the machine has for all
+# else.
+_SPARE, _ELSE = 32, 256
 
 
 def of(room: Room) -> int | None:
@@ -21,8 +22,34 @@ def of(room: Room) -> int | None:
 
 
 def that_starts(room: Room) -> int | None:
-    """With how much in use a server can start: it reads all of it. A sixteenth is left for what
-    small documents need beyond that. What a start needs and nobody reads again can be in swap."""
+    """With how much in use a server can start: it reads all of it. Where the last night took more
+    than by its bytes, what came since may need twice as much again."""
+    most = _memory(room)
+    if most is None:
+        return None
+    need = needs.last(room.name)
+    found = needs.bytes_for(most)
+    if need is not None and need.is_more:
+        found = min(found, need.used + (most - _SPARE - need.memory) // 2)
+    return max(1, found)
+
+
+def needed(room: Room, used: int) -> int:
+    """What memory a start needs with so much in use."""
+    need = needs.last(room.name)
+    return need.memory + 2 * max(0, used - need.used) if need else needs.of_bytes(used)
+
+
+def lacks_swap(room: Room, used: int) -> int:
+    """How much the nightly run misses, which needs as much as a start, beside the server, which
+    keeps what its start took; 0 where nothing is missing, or the machine doesn't say."""
+    memory, swap = _has("MemTotal"), _has("SwapTotal")
+    return max(0, 2 * needed(room, used) + _ELSE - memory - swap) if memory else 0
+
+
+def _memory(room: Room) -> int | None:
+    """What a start may have. What it needs and nobody reads again can be in swap, half of which is
+    left for the nightly runs, which start the program on the copy."""
     most = _allowed(room.unit)
     if most is None:
         return None
@@ -30,8 +57,7 @@ def that_starts(room: Room) -> int | None:
     together = _allowed(_SLICE)
     if together is not None:
         most = min(most, together // count)
-    most += _swap() // 2 // count
-    return max(1, most - most // 16 - _BESIDE)
+    return most + _has("SwapTotal") // 2 // count
 
 
 def _allowed(unit: str) -> int | None:
@@ -48,11 +74,11 @@ def _count() -> int:
     return max(1, len(found))
 
 
-def _swap() -> int:
-    """Half of it is left for the nightly runs, which start the program on the copy."""
+def _has(what: str) -> int:
+    """Of memory or swap; 0 where the machine doesn't say."""
     try:
         with open(f"{machine.ROOT}/proc/meminfo", encoding="ascii") as source:
-            found = re.search(r"^SwapTotal: +(\d+) kB$", source.read(), re.MULTILINE | re.ASCII)
+            found = re.search(rf"^{what}: +(\d+) kB$", source.read(), re.MULTILINE | re.ASCII)
     except OSError:
         return 0
     return int(found[1]) >> 10 if found else 0

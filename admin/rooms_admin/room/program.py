@@ -71,9 +71,10 @@ def limits(megabytes: int) -> Callable[[], None]:
 
 
 def enough(room: Room, file: str) -> int:
-    """How many megabytes the program may have for what it does with a room's file."""
+    """How many megabytes the program may have for what it does with a room's file. Where that has
+    records alone, they take ten times their bytes."""
     size = sum(os.path.getsize(one) for one in (file, file + "-wal") if os.path.exists(one))
-    return room.memory or 1024 + (8 * size >> 20)
+    return room.memory or 1024 + (12 * size >> 20)
 
 
 @contextmanager

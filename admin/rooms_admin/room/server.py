@@ -32,6 +32,11 @@ def stop(room: Room) -> None:
         raise Stop(f"{room.unit} doesn't stop")
 
 
+def stop_beside(name: str) -> None:
+    """What goes on while the server of a room is started anew."""
+    systemctl("stop", "--no-block", f"rooms-door@{name}", f"rooms-wait@{name}.socket")
+
+
 def start(room: Room) -> None:
     if systemctl("start", room.unit)[0] != 0:
         raise Stop(f"{room.unit} doesn't start: systemctl status {room.unit}")
@@ -116,10 +121,14 @@ def guarded(work: Callable[[], object]) -> Iterator[None]:
         signal.pthread_sigmask(signal.SIG_SETMASK, before)
 
 
+def mark_of(unit: str) -> str:
+    return os.path.join(locks.RUN, f"rooms-directory.{unit}")
+
+
 def left_at_rest(room: Room) -> str:
     """The mark of a server that was stopped for a while. It stays where all processes of a run are
     killed, and whoever changes groups or copies the room next starts the server."""
-    return os.path.join(locks.RUN, f"rooms-directory.{room.unit}")
+    return mark_of(room.unit)
 
 
 def was_left(room: Room) -> bool:

@@ -8,6 +8,9 @@ SHORTEST, LONGEST = 30.0, 90.0
 ANSWER = LONGEST + 30.0
 # The same of an earlier night, which may have to be opened once the room has answered.
 NIGHT = ANSWER + 70.0
+# How long who asks waits for a server that is started anew, from when it went; and how long one
+# that is to end goes on for those who asked before.
+START, LAST = LONGEST, 10.0
 # How long a copy waits for its own turn, and one of a server that is stopped may take.
 TURN, STOPPED = 60.0, 3600.0
 

@@ -1,19 +1,18 @@
-"""Waits until a room's server answers, whatever it says: its unit has started from then on. Its
-socket is opened to nginx then. What unit and room are given comes from the unit."""
+"""Waits until a room's server answers, whatever it says: its unit has started from then on. Whoever
+asks the room waits too, and its socket leads to the server then. With --leave the socket leads to
+where they wait, before the server ends: who asked before is answered for ten seconds more. Where
+somebody stops the room, nobody waits, and what goes with its server ends too. What unit and room
+are given comes from the unit."""
 import argparse
-import grp
 import http.client
 import os
-import stat
 import time
 
 from ..cli import words
-from ..host import locks, safe
+from ..host import safe
 from ..host.at_socket import AtSocket
-from ..room import names, waits
+from ..room import names, server, waits, way
 from ..cli.report import Refused, Stop
-
-FRONT = "www-data"
 
 
 def _asked(connection: http.client.HTTPConnection) -> tuple[int, bytes] | None:
@@ -35,45 +34,76 @@ def _answer(port: str, path: str) -> tuple[int, bytes] | None:
                   ) if port else None
 
 
-def answers(port: str, path: str) -> bool:
-    return _answer(port, path) is not None
-
-
 def is_well(port: str, path: str) -> bool:
     return _answer(port, path) == (200, b"{}")
 
 
-def open_to_front(folder: str, group: int) -> None:
-    """nginx may pass through the folder, and write to the socket in it. The folder is the server's:
-    what is changed is what was looked at."""
-    with safe.opened(os.open(folder, os.O_RDONLY | os.O_DIRECTORY | os.O_NOFOLLOW)) as at:
-        os.fchown(at, -1, group)
+def _arrive(room: str) -> None:
+    """A start that nobody was told of, such as that of the machine, has others wait as well."""
+    way.to_waiting(room)
+    # systemd waits for this process where the server has ended, and only then starts it again.
+    process = os.environ.get("MAINPID", "")
+    while _answer("", way.socket_of(room)) is None:
+        if process.isdigit() and not os.path.exists(f"/proc/{process}"):
+            raise Stop(f"the server of {room} has ended")
+        time.sleep(0.05)
+    way.to_server(room)
+
+
+def _comes_back(room: str) -> bool:
+    """Not where systemd was asked to stop the room, by somebody else than a verb that starts it
+    again: it has no other work to do with its unit then."""
+    unit = f"rooms@{room}"
+    if os.path.exists(server.mark_of(unit)):
+        return True
+    jobs = server.systemctl("list-jobs", "--plain", "--no-legend", f"{unit}.service")[1]
+    return not any(line.split()[1:3] == [f"{unit}.service", "stop"] for line in jobs.splitlines())
+
+
+def _answered(handle: int) -> None:
+    """Who came before this question is answered before it. It is asked twice, since somebody may
+    have seen the socket a moment before it went."""
+    ends = time.monotonic() + waits.LAST
+    asked = 0
+    while asked < 2 and time.monotonic() < ends:
+        connection = AtSocket(f"/proc/self/fd/{handle}", max(0.05, ends - time.monotonic()))
         try:
-            handle = os.open("socket", os.O_PATH | os.O_NOFOLLOW, dir_fd=at)
-        except FileNotFoundError:
+            connection.connect()
+        except BlockingIOError:
+            # As many wait as may: one more gets no place yet.
+            time.sleep(0.01)
+            continue
+        except OSError:
             return
-        with safe.opened(handle):
-            if stat.S_ISSOCK(os.fstat(handle).st_mode):
-                os.chmod(f"/proc/self/fd/{handle}", 0o666)
+        _asked(connection)
+        asked += 1
+
+
+def _leave(room: str) -> None:
+    """One that has failed before it ever answered may do so again: nobody waits for that."""
+    before = way.server_there(room)
+    if _comes_back(room):
+        if before == -1 or not way.to_waiting(room):
+            way.close(room)
+    else:
+        way.close(room)
+        server.stop_beside(room)
+    if before != -1:
+        with safe.opened(before):
+            _answered(before)
 
 
 def arguments(parser: words.Parser) -> None:
     words.room(parser)
+    words.flag(parser, "--leave", "before the server ends: lead others to where they wait")
 
 
 def run(given: argparse.Namespace) -> int:
     room = given.room or "office"
     if not names.is_room(room):
         raise Refused(f"bad arguments: '{room}' isn't the name of a room")
-    folder = os.path.join(locks.RUN, "rooms", room)
-    # systemd waits for this process where the server has ended, and only then starts it again.
-    server = os.environ.get("MAINPID", "")
-    while not answers("", os.path.join(folder, "socket")):
-        if server.isdigit() and not os.path.exists(f"/proc/{server}"):
-            raise Stop(f"the server of {room} has ended")
-        time.sleep(0.05)
-    try:
-        open_to_front(folder, grp.getgrnam(FRONT).gr_gid)
-    except (FileNotFoundError, KeyError):
-        pass  # A machine that has no nginx.
+    if given.leave:
+        _leave(room)
+    else:
+        _arrive(room)
     return 0

@@ -16,19 +16,21 @@ failed is sent to MAIL, or to the system's log."""
 import argparse
 import glob
 import os
+import resource
 import time
 from contextlib import ExitStack
 
 from ..cli import report, words
 from ..host import locks, mail, safe
-from ..room import (backups, copying, health, machine, names, private_server, program, server,
-                    settings, texts, tidying)
+from ..room import (backups, copying, health, machine, names, needs, private_server, program,
+                    server, settings, texts, tidying)
 from . import mine, people, until
 from ..room.backups import Found
 from ..room.held import NotHeld
 from ..room.http_client import Caller, Client
 from ..cli.report import Interrupted, Refused, Stop, say
 from ..room.settings import Room
+from ..room.size import NoRoom, Used
 
 
 class Night:
@@ -181,6 +183,18 @@ class Night:
         self.kept = place
         with safe.opened(safe.folder(self.above)) as above:
             os.fsync(above)
+        self.note_need()
+
+    def note_need(self) -> None:
+        """No process that this one has waited for took more than verify, but for a tiny room."""
+        memory = resource.getrusage(resource.RUSAGE_CHILDREN).ru_maxrss >> 10
+        try:
+            used = Used().look(os.path.join(self.kept, self.room.base)) >> 20
+            needs.put(self.room.name, needs.Need(self.date, used, memory))
+        except NoRoom:
+            pass  # A room whose first page says another thing has no number.
+        except OSError as fault:
+            self.failed(f"{needs.FOLDER} can't be written: {fault.strerror}")
 
     def remove_old(self, before: Found) -> None:
         """verify doesn't look at records. Where one of tonight's can't be read, an older backup may
@@ -217,6 +231,8 @@ class Night:
         finally:
             os.close(out)
         self.unread |= word == "audit" and "fault: database" in text
+        if word == "audit" and (status < 0 or "fault: memory" in text):
+            text += "; each record takes 525 bytes of memory"
         tidying.remove_unfinished(self.kept)
         self.failed(f"{word} of the copy failed, status {status}: {text}; the backup {self.kept} "
                     f"is sound, but it has no {name}")

@@ -1,6 +1,7 @@
 """Watches how much of each room's file is in use. While it is more than LIMIT of the settings, a
 flag in /run/rooms-full tells nginx to refuse what adds to the room, with 507. If LIMIT is empty, it
-is as much as the server can start with, by MemoryMax of its unit. What is in use are the pages of
+is as much as the server can start with, by MemoryMax of its unit and by what a start of the last
+night's copy took. What is in use are the pages of
 the file and its log, without free ones. It looks each second, or each five while less than half of
 LIMIT is in use; it locks and changes nothing of the room, and runs as the room's user. The flag
 goes below 95 hundredths of LIMIT, and when this ends; after a kill it stays until this runs again.
@@ -17,7 +18,7 @@ from contextlib import ExitStack
 
 from ..cli import report, words
 from ..host import locks
-from ..room import limit as limits, settings
+from ..room import limit as limits, needs, settings
 from ..cli.report import Interrupted, Refused, Stop, say
 from ..room.size import NoRoom, Reader
 
@@ -27,6 +28,7 @@ FOLDER = os.path.join(locks.RUN, "rooms-full")
 class Watch:
     def __init__(self, room: settings.Room) -> None:
         self.room = room
+        self.known = needs.stamp(room.name)
         self.limit = limits.of(room)
         self.used = Reader(room)
         self.lost = False
@@ -34,6 +36,9 @@ class Watch:
         self.next = 0.0
 
     def look(self) -> None:
+        """A night may have found out what a start needs."""
+        if (now := needs.stamp(self.room.name)) != self.known:
+            self.known, self.limit = now, limits.of(self.room)
         if self.limit is None:
             _remove(self.flag)
             self.next = time.monotonic() + 3600

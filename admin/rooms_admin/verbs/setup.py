@@ -97,11 +97,11 @@ def _end(made: Changes, good: bool) -> int:
 
 def _user(made: Changes) -> None:
     """For the servers, mail about them, the check of passwords, users' own changes of theirs,
-    copies, the doors, earlier nights, and ports."""
+    copies, the doors, earlier nights, ports, and who waits."""
     if made.root:
         return
     for name in ("rooms", "rooms-mail", changes.CHECKER, passwords.KEEPER, runs.COPIES,
-                 "rooms-door", "rooms-night", "rooms-earlier", "rooms-port"):
+                 "rooms-door", "rooms-night", "rooms-earlier", "rooms-port", "rooms-wait"):
         try:
             getpwnam(name)
         except KeyError:

@@ -14,7 +14,7 @@ from collections.abc import Callable
 
 from ..host import waiting
 from ..host.commands import printed
-from ..room import backups, growth, limit, machine, server, settings
+from ..room import backups, growth, limit, machine, needs, server, settings
 from ..site import apache, connections, template
 from . import await_, hours
 from ..cli.report import Refused, Stop
@@ -171,9 +171,15 @@ def see_disk(room: Room) -> list[Finding]:
         return [*found, (CRITICAL, f"{room.file} can't be read")]
     except Stop as stop:
         return [*found, (WARNING, str(stop))]
-    if starts is not None and starts < used >> 20 and (most is None or starts < most):
+    need = needs.last(room.name)
+    took = (f", and a start with the {need.used} MB of last night took {need.memory}"
+            if need is not None and need.is_more else "")
+    if starts is not None and starts < used >> 20 and (most is None or starts < most or took):
         found.append((CRITICAL, f"with {used >> 20} MB in use {room.unit} may not start again: "
-                      f"its MemoryMax is enough for {starts} MB"))
+                      f"its MemoryMax is enough for {starts} MB{took}"))
+    if missing := limit.lacks_swap(room, used >> 20):
+        found.append((WARNING, f"the nightly run needs {limit.needed(room, used >> 20)} MB beside "
+                      f"the server: {missing} MB of swap are missing"))
     if most is None:
         return [*found, (OK, f"{used >> 20} MB in use")]
     level = (CRITICAL if used > most << 20 else

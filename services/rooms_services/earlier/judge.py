@@ -81,6 +81,7 @@ class Judge:
         if folder is not None:
             with self._zip(today, user):
                 yield archive(lambda word, path: self._looked(today, name, user, night, word, path),
+                              lambda reply: today.room.denials.note(user, reply),
                               names_in(folder), chosen_in(query) if query else None)
             return
         with today.turn(user, word):

@@ -3,7 +3,7 @@ import os
 from dataclasses import dataclass
 
 from rooms_admin.cli.report import Refused
-from rooms_admin.room import backups, names, settings
+from rooms_admin.room import backups, names, needs, settings
 
 
 @dataclass
@@ -60,7 +60,9 @@ def place_of(room: Nights, night: str) -> str:
 
 
 def megabytes(room: Nights, place: str) -> int:
-    """What a server of it needs at its start: its rows, pages of its file, and the program."""
+    """What a server of it needs at its start: its rows, pages of its file, and the program; or what
+    that night took, if it was more."""
     files = (os.path.join(place, room.base + end) for end in ("", "-wal"))
     size = sum(os.path.getsize(one) for one in files if os.path.exists(one)) >> 20
-    return size + min(size, 128) + 16 + size // 16
+    need = needs.of_night(room.name, os.path.basename(place))
+    return max(size + min(size, 128) + 16 + size // 16, need.memory if need else 0)

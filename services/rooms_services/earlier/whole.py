@@ -7,7 +7,7 @@ from dataclasses import dataclass
 
 from ..room.answers import Answer, Stop, in_pieces
 from ..room.paths import Names, shown
-from ..room.room import Denials, Reply, ended, listed, too_many
+from ..room.room import Reply, ended, listed, too_many
 from ..door.folders.archive import LEFT_OUT, SECONDS, Taken, headed, safe_name
 from ..door.folders.walk import SECONDS as LOOKING
 from ..door.folders.walk import too_late
@@ -17,6 +17,8 @@ from .judging import LISTED
 MOST = 10_000
 # What the night answers to a route and a path.
 Judged = Callable[[str, Names], Answer]
+# Counts what is denied.
+Note = Callable[[Reply], Reply]
 
 
 @dataclass
@@ -27,13 +29,12 @@ class Entry:
 
 
 class Whole:
-    def __init__(self, judged: Judged) -> None:
-        self._judged = judged
+    def __init__(self, judged: Judged, note: Note) -> None:
+        self._judged, self._note = judged, note
         self.folders: list[Entry] = []
         self.documents: list[Entry] = []
         self.left_out: list[Names] = []
         self._list_of_rest = ""
-        self._denials = Denials()
 
     def _ask(self, word: str, names: Names) -> Answer | None:
         """What is closed, or gone, is left out."""
@@ -43,7 +44,7 @@ class Whole:
             if stop.status != 403:
                 raise
             got = stop.answer(False)
-        self._denials.note(Reply(got.status, b""))
+        self._note(Reply(got.status, b""))
         if got.status == 200:
             return got
         if got.status not in (403, 404, 409):
@@ -103,10 +104,10 @@ class Whole:
         yield from out.end(places)
 
 
-def archive(judged: Judged, names: Names, chosen: frozenset[str] | None) -> Answer:
+def archive(judged: Judged, note: Note, names: Names, chosen: frozenset[str] | None) -> Answer:
     listing = judged("folder", names)
     if listing.status != 200:
         return listing
-    whole = Whole(judged)
+    whole = Whole(judged, note)
     name = whole.look(names, listing, chosen)
     return headed(name, in_pieces(whole.parts()))

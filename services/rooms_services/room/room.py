@@ -6,8 +6,9 @@ nobody comes between."""
 import json
 import re
 import socket
+import threading
 import time
-from collections.abc import Iterable, Iterator
+from collections.abc import Callable, Iterable, Iterator
 from contextlib import contextmanager
 from functools import lru_cache
 from typing import NamedTuple
@@ -29,8 +30,11 @@ LISTING = 16
 # What the answers to a row, or one answer, may have, so that no folder fills the memory: some
 # 80,000 names, or 64 lists of 4,096 entries.
 MOST_ANSWERED = 12_582_912
-# How much of what one request asks may be denied: each denial may leave a record.
-MOST_DENIED = 1000
+# How much of what is asked in one user's name may be denied: so many at once, and so many a second
+# in the long run. Each denial may leave a record, and nothing takes that away.
+MOST_DENIED, DENIED_PACE = 1000, 10.0
+# Of so many users it is known.
+MOST_USERS = 10_000
 CONNECT_SECONDS = 10.0
 USER = re.compile(r"[A-Za-z0-9._+$\\-]{1,64}(@[A-Za-z0-9.-]{1,64})?")
 _HEAD = re.compile(rb"HTTP/1\.1 ([0-9]{3})[^\r\n]*\r\n(?:(?!Content-Length:)[^\r\n]+\r\n)*"
@@ -145,16 +149,31 @@ def too_many() -> Stop:
 
 
 class Denials:
-    """Of one request of a user, which is no flood of records."""
+    """Of users: how many more each may have, and when that was so."""
 
-    def __init__(self) -> None:
-        self._count = 0
+    def __init__(self, most: float = MOST_DENIED, pace: float = DENIED_PACE,
+                 clock: Callable[[], float] = time.monotonic) -> None:
+        self._most, self._pace, self._clock = most, pace, clock
+        self._left: dict[str, tuple[float, float]] = {}
+        self._lock = threading.Lock()
 
-    def note(self, reply: Reply) -> Reply:
-        if reply.status == 403:
-            self._count += 1
-            if self._count > MOST_DENIED:
-                raise Stop(413, "too-many", "too much of it is denied: ask further down")
+    def _forget(self, now: float) -> None:
+        """Whoever may have all again."""
+        self._left = {user: (left, then) for user, (left, then) in self._left.items()
+                      if left + (now - then) * self._pace < self._most}
+
+    def note(self, user: str, reply: Reply) -> Reply:
+        if reply.status != 403:
+            return reply
+        now = self._clock()
+        with self._lock:
+            if len(self._left) >= MOST_USERS:
+                self._forget(now)
+            left, then = self._left.get(user, (self._most, now))
+            left = min(self._most, left + (now - then) * self._pace) - 1
+            self._left[user] = max(left, 0.0), now
+        if left < 0:
+            raise Stop(413, "too-many", "too much of it is denied: ask further down, or later")
         return reply
 
 
@@ -281,6 +300,7 @@ class Room:
         self.place = place
         self.seconds = seconds
         self.most = most
+        self.denials = Denials()
         self._turn = InTurn()
 
     def take(self) -> None:

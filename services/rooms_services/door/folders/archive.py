@@ -152,7 +152,7 @@ class Archive:
             for one, reply in zip(row, replies, strict=True):
                 if reply.status == 200:
                     yield one, reply.body
-                elif self.walk.denials.note(reply).status in (403, 404, 409):
+                elif self.walk.note(reply).status in (403, 404, 409):
                     self.left_out.append(one)
                 else:
                     raise ended()

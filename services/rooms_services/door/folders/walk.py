@@ -8,7 +8,7 @@ from typing import NamedTuple
 
 from ...room.answers import Stop
 from ...room.paths import Names, escaped, escaped_name, shown
-from ...room.room import Ask, Denials, Filling, Reply, Room, Row, listed, too_many
+from ...room.room import Ask, Filling, Reply, Room, Row, listed, too_many
 
 # No request looks at more, or at longer names together, or for longer.
 MOST = 80_000
@@ -68,9 +68,11 @@ class Walk:
         self.named = 0
         self.asked: deque[tuple[Step, Node]] = deque()
         self.until = time.monotonic() + SECONDS
-        self.denials = Denials()
         # Addresses of the folders that were asked about last.
         self._targets: dict[Node | None, str] = {}
+
+    def note(self, reply: Reply) -> Reply:
+        return self.room.denials.note(self.user, reply)
 
     def ask(self, step: Step, node: Node) -> None:
         self.asked.append((step, node))
@@ -123,7 +125,7 @@ class Walk:
                 under_way = Row(self.room, self.user, row) if row else None
                 if before:
                     for (step, node), reply in zip(its_before, before.replies(whole), strict=True):
-                        step.then(node, self.denials.note(reply))
+                        step.then(node, self.note(reply))
         finally:
             if under_way:
                 under_way.drop()

@@ -6,7 +6,7 @@ from contextlib import contextmanager
 from . import objects, trees
 from ...room.answers import Stop
 from ...room.paths import Names, shown
-from ...room.room import LARGEST, Ask, Denials, Reply, Room, Talk, about, rows
+from ...room.room import LARGEST, Ask, Reply, Room, Talk, about, rows
 from ...room.tags import names_tag, tag_of
 from .conditions import Condition, Listed, read_if
 from .dates import Dates
@@ -40,7 +40,6 @@ class Call:
         # What the field If names, of the caller's own locks.
         self.tokens: frozenset[str] = frozenset()
         self._talk: Talk | None = None
-        self._denials = Denials()
 
     @contextmanager
     def alone(self) -> Iterator[None]:
@@ -57,14 +56,15 @@ class Call:
         return self._talk.taken if self._talk else 0
 
     def ask(self, ask: Ask) -> Reply:
-        return self._denials.note(
-            self._talk.ask(ask) if self._talk else self.room.ask(self.user, ask))
+        return self.room.denials.note(
+            self.user, self._talk.ask(ask) if self._talk else self.room.ask(self.user, ask))
 
     def row(self, asks: list[Ask]) -> list[Reply]:
         """Only of what changes nothing."""
         if self._talk:
             return [self.ask(ask) for ask in asks]
-        return [self._denials.note(reply) for reply in self.room.row(self.user, asks)]
+        return [self.room.denials.note(self.user, reply)
+                for reply in self.room.row(self.user, asks)]
 
     def each(self, asks: Iterable[Ask]) -> Iterator[Reply]:
         for row in rows(self.user, asks):

@@ -1,0 +1,156 @@
+"""How much a room may have, and what is told of one that has too much for its machine."""
+import contextlib
+import io
+import os
+import resource
+import struct
+import sys
+import unittest
+import unittest.mock
+from unittest.mock import patch
+
+sys.path.insert(0, os.path.join(os.path.dirname(__file__), "..", "..", "admin"))
+
+from rooms_admin.room import limit, machine, needs, size  # noqa: E402
+from rooms_admin.room.needs import Need  # noqa: E402
+from rooms_admin.verbs import backup, full, watched  # noqa: E402
+from test_backups import Folder  # noqa: E402
+
+
+class Night(Folder):
+    def night(self, status: int, text: str, word: str) -> list[str]:
+        night = backup.Night(self.room)
+        night.kept = self.backup("2026-11-30.040000", 1)
+        with patch.object(night, "on_copy", return_value=(status, b"", text)), \
+                contextlib.redirect_stderr(io.StringIO()):
+            night.write_text("records.csv", word, [])
+        return night.failures
+
+    def test_very_many_records_are_named(self) -> None:
+        """Where the program has no memory for them, and where it is killed for it."""
+        for status, text in ((3, "fault: memory, with MEMORY=100"), (-9, "")):
+            told, = self.night(status, text, "audit")
+            self.assertIn("each record takes 525 bytes of memory; the backup ", told)
+        for status, text, word in ((3, "fault: database", "audit"), (-9, "", "dump")):
+            told, = self.night(status, text, word)
+            self.assertNotIn("record takes", told)
+        self.assertEqual(self.night(0, "", "audit"), [])
+
+
+class Needs(Folder):
+    """What nights have measured."""
+
+    def setUp(self) -> None:
+        super().setUp()
+        os.makedirs(f"{self.home}/proc")
+        self.has(0, 0)
+        for module, name, value in ((needs, "FOLDER", f"{self.home}/var/lib/rooms-need"),
+                                    (machine, "ROOT", self.home),
+                                    (limit, "_allowed", lambda unit: self.allowed[unit]),
+                                    (limit, "_count", lambda: 1)):
+            patched = patch.object(module, name, value)
+            patched.start()
+            self.addCleanup(patched.stop)
+        self.allowed: dict[str, int | None] = {"rooms@office": 1024, "rooms.slice": None}
+
+    def has(self, memory: int, swap: int) -> None:
+        with open(f"{self.home}/proc/meminfo", "w", encoding="ascii") as file:
+            file.write(f"MemTotal: {memory << 10} kB\nSwapTotal:       {swap << 10} kB\n")
+
+    def test_they_are_kept(self) -> None:
+        self.assertEqual((needs.all_of("office"), needs.last("office")), ([], None))
+        first, second = Need("2026-11-29.040000", 40, 95), Need("2026-11-30.040000", 49, 282)
+        for one in (first, second):
+            before = needs.stamp("office")
+            needs.put("office", one)
+            self.assertNotEqual(needs.stamp("office"), before)
+        self.assertEqual(needs.all_of("office"), [first, second])
+        self.assertEqual(needs.of_night("office", first.night), first)
+        # An hourly copy is no night.
+        self.assertEqual(needs.of_night("office", "2026-11-29.130000"), second)
+        self.assertEqual(needs.all_of("invoices"), [])
+        with patch.object(needs, "_MOST", 3):
+            for number in range(9):
+                needs.put("office", Need(f"2026-12-0{number}.040000", number, 1))
+        self.assertEqual([one.used for one in needs.all_of("office")], [6, 7, 8])
+        self.assertEqual(os.stat(needs.FOLDER).st_mode & 0o777, 0o755)
+
+    def test_what_is_no_line_says_nothing(self) -> None:
+        os.makedirs(needs.FOLDER)
+        with open(f"{needs.FOLDER}/office", "wb") as file:
+            file.write(b"\xff\n2026-11-30.040000 x 1\n2026-11-30.040000 49 282 1\n"
+                       b"2026-11-30.040000 49 282\n2026-11-30.040000 123456789 1\n")
+        self.assertEqual(needs.all_of("office"), [Need("2026-11-30.040000", 49, 282)])
+
+    def test_records_count(self) -> None:
+        """By the table of what starts were seen to take: documents need what their bytes say, a
+        million records 282 MB for 49, and 4.3 millions more than there is."""
+        self.assertEqual(limit.that_starts(self.room), 816)
+        for used, memory, most in ((404, 540, 816), (200, 331, 816), (1, 30, 816), (10, 47, 816),
+                                   (49, 282, 49 + (1024 - 32 - 282) // 2),
+                                   (223, 1117, 223 - 63), (10, 5000, 1)):
+            needs.put("office", Need("2026-11-30.040000", used, memory))
+            self.assertEqual(limit.that_starts(self.room), most)
+        # It counts in a given LIMIT no more than bytes do.
+        self.room.limit = "500"
+        self.assertEqual(limit.of(self.room), 500)
+        self.allowed["rooms@office"] = None
+        self.assertEqual(limit.that_starts(self.room), None)
+
+    def seen(self, used: int) -> list[tuple[int, str]]:
+        with patch.object(size.Used, "look", return_value=used << 20), \
+                patch.object(watched, "_space", return_value=(0, "space")):
+            return watched.see_disk(self.room)[1:]
+
+    def test_the_check(self) -> None:
+        self.assertEqual(self.seen(400), [(0, "400 of 816 MB in use")])
+        needs.put("office", Need("2026-11-30.040000", 223, 1117))
+        self.assertEqual(self.seen(223), [
+            (2, "with 223 MB in use rooms@office may not start again: its MemoryMax is enough for "
+             "160 MB, and a start with the 223 MB of last night took 1117"),
+            (2, "223 of 160 MB in use")])
+
+    def test_swap_that_is_missing(self) -> None:
+        self.has(2000, 0)
+        self.assertEqual(self.seen(600), [(0, "600 of 816 MB in use")])
+        self.has(1500, 0)
+        told = (1, "the nightly run needs 793 MB beside the server: 342 MB of swap are missing")
+        self.assertEqual(self.seen(600), [told, (0, "600 of 816 MB in use")])
+        self.has(1500, 400)
+        self.assertEqual(len(self.seen(600)), 1)
+        # Records have what the night took, and twice what came since.
+        needs.put("office", Need("2026-11-30.040000", 49, 282))
+        self.has(800, 0)
+        self.assertEqual(self.seen(59)[0], (
+            1, "the nightly run needs 302 MB beside the server: 60 MB of swap are missing"))
+
+    def test_a_watch_goes_by_a_night(self) -> None:
+        with patch.object(full, "Reader"), patch.object(full, "FOLDER", self.home):
+            watch = full.Watch(self.room)
+            self.assertEqual(watch.limit, 816)
+            watch.used.look = lambda: 0  # type: ignore[method-assign]
+            needs.put("office", Need("2026-11-30.040000", 49, 282))
+            watch.look()
+            self.assertEqual(watch.limit, 404)
+
+    def test_a_night_writes_it_down(self) -> None:
+        night = backup.Night(self.room)
+        night.date = "2026-11-30.040000"
+        night.kept = self.backup(night.date, 1)
+        with open(f"{night.kept}/office.rooms", "wb") as file:
+            file.write(struct.pack(">16sH10xI4xI", b"SQLite format 3\0", 4096, 2560, 0))
+        with patch.object(resource, "getrusage") as took:
+            took.return_value.ru_maxrss = 50 << 10
+            night.note_need()
+        self.assertEqual(needs.all_of("office"), [Need(night.date, 10, 50)])
+        self.assertEqual(night.failures, [])
+        os.unlink(f"{needs.FOLDER}/office")
+        os.rmdir(needs.FOLDER)
+        open(needs.FOLDER, "w").close()
+        with contextlib.redirect_stderr(io.StringIO()):
+            night.note_need()
+        self.assertIn("rooms-need can't be written: ", night.failures[0])
+
+
+if __name__ == "__main__":
+    unittest.main()
