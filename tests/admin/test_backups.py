@@ -169,9 +169,10 @@ class Found(Folder):
                 unittest.mock.patch.object(published, "FOLDER", f"{self.home}/web"):
             self.assertEqual((run.known(), known.newest(self.room).members),
                              (None, {("staff", "alice")}))
-            with unittest.mock.patch.object(members, "write", return_value="done"), \
+            with unittest.mock.patch.object(members, "change",
+                                            return_value="joined 1, left 0, members 2"), \
                     unittest.mock.patch.object(passwords, "password_files", return_value=[]):
-                known.replace(self.room, both)
+                self.assertEqual(known.change(self.room, {("staff", "alice")}, both, set()), both)
                 self.assertIsNone(known.kept(self.room))
                 for shown in ("no", "names"):
                     room = dataclasses.replace(self.room, people=shown)
@@ -180,9 +181,9 @@ class Found(Folder):
             # What isn't of this file is no news for groups.
             known.keep(self.room, known.Known({("a", "b")}, 0))
             self.assertIsNone(run.known())
-            with unittest.mock.patch.object(members, "write", side_effect=Stop("no")), \
+            with unittest.mock.patch.object(members, "change", side_effect=Stop("no")), \
                     self.assertRaises(Stop):
-                known.replace(self.room, both)
+                known.change(self.room, set(), both, set())
             self.assertIsNone(known.kept(self.room))
             known.try_to_keep(self.room, known.here(self.room, both))
             os.replace(self.room.file, f"{self.room.file}.before")

@@ -467,20 +467,20 @@ class Words(unittest.TestCase):
             self.read("get")
         with self.assertRaisesRegex(
                 Refused, r"; rooms-admin user remove \[--room ROOM\] \[--to HEIR \| --password\] "
-                "NAME$"):
+                r"\[--dry-run\] NAME$"):
             self.read("user", "remove", "--password")
-        with self.assertRaisesRegex(Refused, "'?add'?, '?remove'?, '?list.*; rooms-admin user add"):
+        with self.assertRaisesRegex(Refused, "'?add'?, '?change'?, '?rem.*; rooms-admin user add"):
             self.read("user", "rename", "bob")
 
     def test_what_is_explained(self) -> None:
         """All of a verb, or of a part of one, wherever that is asked."""
         for typed, usages in ((["get", "--help"], 1), (["get", "latest", "-h"], 1),
-                              (["user", "-h"], 4), (["user", "add", "eve", "--help"], 2)):
+                              (["user", "-h"], 5), (["user", "add", "eve", "--help"], 2)):
             with self.assertRaises(words.Asked) as asked:
                 self.read(*typed)
             text = manual.explain(typed[0], asked.exception.parser)
             self.assertEqual(text.count("Usage: rooms-admin "), usages, typed)
-            self.assertEqual("--json" in text, usages == 4, typed)
+            self.assertEqual("--json" in text, usages == 5, typed)
 
 
 if __name__ == "__main__":

@@ -289,20 +289,24 @@ class Words(unittest.TestCase):
                       "add newbie --groups sales --room office",
                       "--room hr add newbie -r office --groups sales"):
             self.assertEqual(self.typed(given),
-                             user.Words("add", "newbie", "office", ["sales"], "", ""), given)
-        self.assertEqual(self.typed("add x --groups a,b").groups, ["a", "b"])
+                             user.Words("add", "newbie", "office", joins=["sales"]), given)
+        self.assertEqual(self.typed("add x --groups a,b").joins, ["a", "b"])
+        for given in ("change x --add a,b --drop c", "change --drop c --add a --add b x"):
+            self.assertEqual(self.typed(given), user.Words(
+                "change", "x", "office", joins=["a", "b"], leaves=["c"]), given)
         self.assertEqual(self.typed("remove -x --to alice --room hr"),
-                         user.Words("remove", "-x", "hr", [], "", "alice"))
+                         user.Words("remove", "-x", "hr", heir="alice"))
         self.assertEqual(self.typed("add x --random --first --groups a"), user.Words(
-            "add", "x", "office", ["a"], "", "", is_first=True, is_random=True))
+            "add", "x", "office", joins=["a"], is_first=True, is_random=True))
         self.assertEqual(self.typed("add --file f -r hr"),
-                         user.Words("add", "", "hr", [], "f", ""))
+                         user.Words("add", "", "hr", file="f"))
 
     def test_what_is_refused(self) -> None:
         for bad in ("", "add", "remove", "add a b", "add --groups", "add a --groups", "list a",
                     "add a --to b", "remove a --groups b", "add a --groups b --file f",
                     "remove --file f", "add a --groups x,", "add jürgen", "add a -x",
-                    "add --file f a", "add --file f --random", "remove a --random"):
+                    "add --file f a", "add --file f --random", "remove a --random", "change a",
+                    "change a --add b --drop b", "change a --add b,", "change --add b"):
             with self.assertRaises(Refused, msg=bad):
                 self.typed(bad)
 

@@ -15,6 +15,18 @@ htpasswd -vb passwords dana typed >said 2>&1
 holds 'and has a password' grep -q correct said
 holds 'of cost 10' grep -q '^dana:$2y$10\$' passwords
 cp -L passwords before
+paste_in "$(blocks people.md 'user change dana')"
+prints 'she changes department' '+ staff,dana' '- sales,dana' 'groups 2, members 5'
+same 'and keeps her password' passwords before
+paste_in "$(blocks people.md 'members >groups.csv')"
+holds 'who is there' grep -qx staff,dana groups.csv
+sed -i 's/^staff,dana$/sales,dana/' groups.csv
+paste_in "$(blocks people.md 'members --dry-run')"
+prints 'and a file changes it' '+ sales,dana' '- staff,dana' '+ sales,dana' '- staff,dana' \
+  'groups 2, members 5'
+paste_in "$(blocks people.md 'members --dry-run')"
+holds 'but only once' [ "$status" = 2 ]
+holds 'since it is another one by then' grep -q 'changed meanwhile: ' "$work/err"
 paste_in "$(blocks people.md joining.csv)"
 holds 'many join' [ "$status" = 0 -a "$(grep -cxE '(kim|lee): [a-z2-9]{16}' "$work/out")" = 2 ]
 holds 'and are in their groups' grep -qx 'groups 2, members 8' "$work/out"

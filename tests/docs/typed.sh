@@ -220,9 +220,11 @@ types 'without internet' docs/operating --download-only docs/operating './*.deb'
 types 'without a package' docs/operating 'nginx apache2-utils' docs/operating '=deploy/install'
 types 'a folder' docs/operating 'rooms.example:80'
 shows 'is made' 201
-types 'groups and lists' docs/operating 'runuser -u rooms bash' docs/operating 'cat >groups.csv' \
+types 'groups' docs/operating 'cat >groups.csv'
+shows 'are taken' '+ sales,carol' 'groups 2, members 3'
+types 'lists' docs/operating 'runuser -u rooms bash' \
   docs/operating 'office.rooms / dacl' docs/operating 'office.rooms / sacl'
-shows 'are taken' 'groups 2, members 3' 'done'
+shows 'are taken' 'done'
 does 'the server starts' 'systemctl start rooms@office'
 # The mail program is one of these tests; install/package has the warning where there is none.
 printf '#!/bin/sh\ncat >>/srv/mails\n' >"$machine/usr/local/bin/mail"
@@ -293,6 +295,11 @@ types 'somebody joins' docs/people '=rooms-admin user add dana --groups sales'
 file=$machine/var/lib/rooms-passwords/rooms.htpasswd
 holds 'she has a password' grep -q '^dana:$2y$10\$' "$file"
 shows 'she is in her group' 'groups 2, members 4'
+types 'somebody changes department' docs/people 'user change dana'
+shows 'which is shown' '+ staff,dana' '- sales,dana' 'groups 2, members 4'
+does 'and goes back' 'rooms-admin user change dana --add sales --drop staff'
+types 'a spreadsheet' docs/people 'members >groups.csv' docs/people 'members --dry-run'
+shows 'says what is there' 'groups 2, members 4'
 types 'who is there' docs/people '=rooms-admin user list'
 shows 'dana is' 'dana  password  sales'
 does 'bob has a password' 'rooms-admin user add bob'

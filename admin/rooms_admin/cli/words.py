@@ -171,6 +171,17 @@ def option(parser: argparse._ActionsContainer, name: str, value: str, about: str
         parser.add_argument(name, metavar=value, default=default, help=about, dest=dest)
 
 
+def several(parser: Parser, name: str, value: str, about: str) -> None:
+    """An option that may stand several times."""
+    parser.add_argument(name, metavar=value, action="append", help=about,
+                        default=argparse.SUPPRESS if parser.is_part else [])
+
+
+def dry_run(parser: argparse._ActionsContainer, what: str) -> None:
+    """Of a verb that changes something."""
+    flag(parser, "--dry-run", f"print {what}, and change nothing")
+
+
 def rows(parser: Parser) -> None:
     """Of a verb whose findings a program may want."""
     flag(parser, "--json", "print a list of objects, for a program")

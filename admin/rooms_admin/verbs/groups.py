@@ -12,17 +12,18 @@ from contextlib import ExitStack
 
 from ..cli import report, words
 from ..host import locks, mail
-from ..room import backups, dump, entries, known, members, names, server, settings, texts
+from ..room import backups, dump, entries, joining, known, members, names, server, settings, texts
 from . import people
 from ..site.directory import GROUPS, Directory, NoSuchEntry
 from ..cli.report import Refused, Stop, say
+from ..room.dump import Pair
+from ..room.joining import Change
 from ..room.settings import Room
 
 # The program takes no more from a file.
 LIMIT = 20000
 # A directory that always names another one would never end.
 GROUPS_IN_ONE = 10000
-Pair = tuple[str, str]
 
 
 class NoGroup(Refused):
@@ -184,7 +185,7 @@ class Run:
         if now is not None:
             coming, going, others = compare(now, wanted, groups)
             if self.dry:
-                show(coming, going)
+                show(Change(now, coming, going))
                 return
             if not coming and not going:
                 return
@@ -199,14 +200,13 @@ class Run:
             known.try_to_keep(self.room, known.here(self.room, now))
             coming, going, others = compare(now, wanted, groups)
             self.guard(going, len(others | wanted), most)
-            show(coming, going)
-            if coming or going:
-                self.replace(others | wanted)
-
-    def replace(self, pairs: set[Pair]) -> None:
-        say(known.replace(self.room, pairs))
-        for failure in people.write(self.room, known.here(self.room, pairs)):
-            say(failure)
+            change = Change(now, coming, going)
+            show(change)
+            if not change.is_none:
+                then = known.change(self.room, now, coming, going)
+                say(joining.counted(then))
+                for failure in people.write(self.room, known.here(self.room, then)):
+                    say(failure)
 
     def names(self) -> None:
         """Users of the room, as the last backup has them in lists and groups, whom the directory
@@ -242,10 +242,9 @@ def compare(now: set[Pair], wanted: set[Pair], groups: dict[str, str]
     return wanted - ours, ours - wanted, now - ours
 
 
-def show(coming: set[Pair], going: set[Pair]) -> None:
-    for sign, pairs in (("+", coming), ("-", going)):
-        for group, user in sorted(pairs):
-            print(f"{sign} {group},{user}")
+def show(change: Change) -> None:
+    for line in change.lines():
+        print(line)
 
 
 def _work(task: Run, given: argparse.Namespace) -> int:

@@ -120,7 +120,7 @@ class Run:
             return
         self.undone.clear()
         with server.at_rest(self.room):
-            now = self.find(dump.parsed(members.listed(self.room).split(b"\n")))
+            now = self.find(dump.parsed(members.printed(self.room, "dump").split(b"\n")))
             begun = time.monotonic()
             for number, due in enumerate(sorted(now, key=lambda due: not due.ends)):
                 if time.monotonic() - begun > REST:
