@@ -180,6 +180,17 @@ END
   room_verb user list
   as_listed 'where a directory has them' 'OFFICE\dave  password elsewhere  clerks' \
     'alice  password elsewhere  staff' 'carol  password elsewhere  staff'
+  typed=typed room_verb user add dora
+  says 'a password that nobody asks for' 2 'passwords elsewhere: those of office'
+  setting GUESTS yes
+  room_verb user list
+  as_listed 'where guests have theirs in the file' '..  password' \
+    'OFFICE\dave  password  clerks' "$odd  password" 'alice  password  staff' 'bob  password' \
+    'carol  password  staff' 'eve  password' 'zoe  first password'
+  setting PASSWORDS session
+  typed=typed room_verb user add dora
+  says 'nor one beside sessions' 2 'passwords elsewhere: those of office'
+  setting GUESTS ''
   setting PASSWORDS file
   room_verb user list bob
   says 'with a name' 2 "bad arguments: a word too many: 'bob'"

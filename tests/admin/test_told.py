@@ -17,7 +17,7 @@ from rooms_admin.cli.report import Refused, Stop
 from rooms_admin.host import at_socket, changes, locks, mail, waiting
 from rooms_admin.room import (dump, http_client, names, password_rules, passwords, published,
                               server, settings, size)
-from rooms_admin.site import password_files, template
+from rooms_admin.site import guests, password_files, template
 from rooms_admin.verbs import check, full, rooms, tell, user, watched
 
 
@@ -276,6 +276,33 @@ class Moved(Passwords):
         for name in ("office", "invoices", "a-b"):
             for file in (passwords.kept_of(name), passwords.old_of(name)):
                 self.assertEqual(passwords.room_of(file), name)
+
+
+class Guests(unittest.TestCase):
+    """Whom a directory has, and who has a password in a room's file."""
+
+    def look(self, in_file: str, has_guests: bool) -> list[str]:
+        room = settings.Place(name="office", on="", passwords="directory", guests=has_guests)
+        where = settings.Directory()
+        with tempfile.TemporaryDirectory() as root, unittest.mock.patch.object(
+                guests, "_names", return_value={"alice", "bob"}):
+            os.makedirs(root + os.path.dirname(passwords.old_of("office")))
+            with open(root + passwords.old_of("office"), "w", encoding="utf-8") as out:
+                out.write(in_file)
+            return guests.look(root, where, [room])
+
+    def test_who_is_shut_out_is_told(self) -> None:
+        told = self.look("alice:x\neve:x\ntim:x\n", False)
+        self.assertEqual(len(told), 1)
+        self.assertTrue(told[0].startswith("eve, tim of office can't sign in any more"), told)
+        self.assertEqual(self.look("alice:x\n", False), [])
+        self.assertEqual(self.look("", False), [])
+
+    def test_nobody_has_two(self) -> None:
+        for name in ("alice", "Alice", "BOB"):
+            with self.assertRaisesRegex(Refused, f"^two passwords: {name} of office are in"):
+                self.look(f"eve:x\n{name}:x\n", True)
+        self.assertEqual(self.look("eve:x\ntim:x\n", True), [])
 
 
 class Words(unittest.TestCase):

@@ -73,7 +73,8 @@ def hashed(password: str) -> bytes:
     return text.encode()
 
 
-def _base(name: str) -> str:
+def base(name: str) -> str:
+    """By which nginx and Apache know whose passwords are asked for."""
     return "rooms" if name == "office" else f"rooms-{name}"
 
 
@@ -84,12 +85,12 @@ def room_of(file: str) -> str:
 
 def kept_of(name: str) -> str:
     """Of a room whose users change their own."""
-    return f"{KEPT}/{_base(name)}.htpasswd"
+    return f"{KEPT}/{base(name)}.htpasswd"
 
 
 def old_of(name: str) -> str:
     """Of a room where root alone does."""
-    return f"{OLD}/{_base(name)}.htpasswd"
+    return f"{OLD}/{base(name)}.htpasswd"
 
 
 def file_of(root: str, name: str) -> str:

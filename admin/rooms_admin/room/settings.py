@@ -152,6 +152,7 @@ class Reached:
     title: str = setting("TITLE")
     passwords: str = setting("PASSWORDS", r"(file|directory|session)?",
                              "file, directory or session", reads=lambda text: text or "file")
+    guests: bool = yes("GUESTS")
     host: str = setting("HOST", lambda text: not text or is_host(text), "a host's name")
     behind: bool = yes("BEHIND")
     drive: bool = yes("DRIVE")
@@ -165,6 +166,11 @@ class Reached:
     def shows_nights(self) -> bool:
         """Whether its users see earlier nights."""
         return self.earlier != "no"
+
+    @property
+    def lets_guests(self) -> bool:
+        """Whether its file is asked for whom the directory doesn't let in."""
+        return self.passwords == "directory" and self.guests
 
 
 def name_of(path: str) -> str:

@@ -14,6 +14,7 @@ from ..cli import report, words
 from ..host import locks, mail
 from ..room import backups, dump, entries, joining, known, members, names, server, settings, texts
 from . import people
+from ..site import guests
 from ..site.directory import GROUPS, Directory, NoSuchEntry
 from ..cli.report import Refused, Stop, say
 from ..room.dump import Pair
@@ -128,7 +129,7 @@ class Run:
     def ask(self, groups: dict[str, str]) -> set[Pair]:
         """Takes those out of `groups` that the directory hasn't: one may have been renamed there,
         which keeps nobody from leaving another one."""
-        asked = Asked(Directory(_directory(self.room)))
+        asked = Asked(Directory(guests.settings_of(self.room.conf)))
         wanted: set[Pair] = set()
         for name, what in list(groups.items()):
             pairs = set()
@@ -214,7 +215,7 @@ class Run:
         if not self.last():
             raise Refused("no backup yet, where names are looked for: systemctl start "
                           f"{self.room.nightly}")
-        asked = Asked(Directory(_directory(self.room)))
+        asked = Asked(Directory(guests.settings_of(self.room.conf)))
         theirs = {one.lower(): one for one in asked.users.values()}
         same = set(asked.users.values())
         ours = set()
@@ -229,10 +230,6 @@ class Run:
         for one in sorted(ours - same):
             if one.lower() in theirs:
                 print(f"{one}: the directory has {report.line(theirs[one.lower()])}")
-
-
-def _directory(room: Room) -> settings.Directory:
-    return settings.directory(os.path.join(os.path.dirname(room.conf), "directory"))
 
 
 def compare(now: set[Pair], wanted: set[Pair], groups: dict[str, str]

@@ -26,6 +26,7 @@ from ..host import locks
 from ..room import (joining, known, look, members, names, passwords, published, server, settings,
                     spreadsheet)
 from . import leaving, people
+from ..site import guests
 from ..room.dump import Pair
 from ..room.known import Known
 from ..cli.report import Refused, say
@@ -174,8 +175,24 @@ def _give(place: str, asked: Words, text: str) -> bool:
     return not had
 
 
+def _need_file(place: str, room: Room | None, asked: Words) -> None:
+    """A password that nobody asks for would be no password."""
+    at = settings.place(f"{settings.HOME}/{place}.on") if room is None else room
+    if room and at.lets_guests:
+        if found := guests.spelled(guests.settings_of(room.conf), asked.name):
+            raise Refused(f"two passwords: the directory has {found}, whose password is there")
+    elif at.passwords != "file":
+        raise Refused(f"passwords elsewhere: those of {place} aren't in its file, by PASSWORDS in "
+                      "its settings; user change has groups alone, and GUESTS=yes lets in guests "
+                      "beside a directory")
+    if asked.is_first and at.passwords != "file":
+        raise Refused(f"no own passwords: nobody could change a first one of {place}, whose "
+                      "passwords a directory has")
+
+
 def _add(place: str, room: Room | None, asked: Words) -> int:
     """Groups are looked for before anything has changed."""
+    _need_file(place, room, asked)
     if asked.is_dry:
         print(f"would: a password for {asked.name}, in {passwords.password_files(place)[0]}")
     text = ("" if asked.is_dry else
@@ -276,14 +293,14 @@ def _groups_known(room: Room | None) -> set[Pair]:
 
 def _list(place: str, room: Room | None, is_json: bool) -> int:
     # What root's file has doesn't count where a directory or sessions are asked.
-    counts = room is None or room.passwords == "file"
+    counts = room is None or room.passwords == "file" or room.lets_guests
     files = passwords.password_files(place) if counts else []
     has = set[str]().union(*map(people.with_password, files))
     first = {user for file in files for user, is_first in passwords.kinds(file).items() if is_first}
     groups_of: dict[str, list[str]] = {}
     for group, user in sorted(_groups_known(room)):
         groups_of.setdefault(user, []).append(group)
-    none = "no" if counts else "elsewhere"
+    none = "no" if room is None or room.passwords == "file" else "elsewhere"
     found = [(user, none if user not in has else "first" if user in first else "yes",
               groups_of.get(user, [])) for user in sorted(has | set(groups_of))]
     if is_json:
