@@ -198,6 +198,12 @@ END
   says 'an option of list' 2 'bad arguments: no such option: --json; rooms-admin user add'
   rm "${passwords%.htpasswd}.first"
 
+  # Root may give one that a user could not choose, and is told so.
+  echo x >short
+  typed=short room_verb user add zoe
+  says 'a password of one letter' 0 'a short password, which users couldn'"'"'t choose'
+  room_verb user remove zoe
+
   # While a password is asked for, nothing is locked.
   mkfifo asking
   exec 7<>asking

@@ -48,7 +48,7 @@ unchanged() { # NAME
 old_office
 unit start
 restores good
-says 'while the server runs' 2 'the server runs'
+says 'while the server runs' 2 "the server runs (rooms is 'active'): --start stops it for a moment"
 unit_runs 'which goes on'
 unit stop
 old_office

@@ -43,6 +43,10 @@ $(blocks people.md '18:00')"
 prints 'somebody from outside' "a password for eve, in $file" 204 204 \
   '{"r":"allowed 3","w":"silent","x":"allowed 3"}'
 answers 'she sees her folder' '[] 200' eve GET /folder/projects/bridge
+# What she has is a level, so that it can end at a date.
+asked alice GET /dacl/projects/bridge | grep '^A:fd:eve:' >got
+grep -m 1 '^| `read` ' "$docs/people.md" | cut -d '`' -f 4 >wanted
+same 'by the entry of a level' got wanted
 answers 'but not the one above' '{"at":"/projects","bits":"r","entry":null,"text":null} 403' \
   eve GET /folder/projects
 answers 'nor any other' '{"at":"/letters","bits":"r","entry":null,"text":null} 403' \

@@ -13,7 +13,7 @@ from collections.abc import Iterator
 from contextlib import AbstractContextManager, contextmanager
 from dataclasses import dataclass
 
-from ..cli.report import Refused, Stop
+from ..cli.report import Refused, Stop, say
 from ..host import commands, locks, safe
 from . import password_rules, published
 
@@ -58,6 +58,8 @@ def ask(user: str) -> str:
     if not password_rules.can_be_given(given):
         raise Refused(f"bad password: it has 1 to {password_rules.LONGEST} bytes, no control "
                       "characters, and no letter in two parts")
+    if why := password_rules.fault_of(user, "", given):
+        say(f"a {why} password, which users couldn't choose: --random makes a better one")
     return given
 
 

@@ -392,6 +392,7 @@ class Front:
     hosts: list[str] = setting("HOSTS", _are_hosts, "names of hosts", "rooms.example", str.split)
     certificate: str = setting("CERTIFICATE", _SAFE, _SAFE_PATH)
     key: str = setting("KEY", _SAFE, _SAFE_PATH)
+    unencrypted: bool = yes("UNENCRYPTED")
     connections: str = setting("CONNECTIONS", r"([1-9][0-9]{1,5}|none)?",
                                "a number of connections, 10 or more, or none")
 

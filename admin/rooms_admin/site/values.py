@@ -49,6 +49,10 @@ HOSTS=rooms.example
 CERTIFICATE=
 KEY=
 
+# With UNENCRYPTED=yes they do so on purpose, as behind a proxy that has TLS: rooms-admin check says
+# nothing of it.
+UNENCRYPTED=
+
 # How many connections to nginx one address, or network of IPv6, may have at once. If this is empty,
 # it is half of what nginx holds; 'none' sets no limit, as behind a proxy through which all come.
 CONNECTIONS=

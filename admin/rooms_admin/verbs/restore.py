@@ -30,7 +30,8 @@ def refuse_while_served(room: Room) -> None:
     """A unit that systemd keeps restarting is 'activating'."""
     state = server.state(room)
     if state not in ("inactive", "failed"):
-        raise Refused(f"the server runs ({room.unit} is '{state}'): systemctl stop {room.unit}")
+        raise Refused(f"the server runs ({room.unit} is '{state}'): --start stops it for a moment, "
+                      f"or systemctl stop {room.unit}")
     for process in (int(one) for one in os.listdir("/proc") if one.isdigit()):
         if process != os.getpid() and server.has_open(process, room.file):
             raise Refused(f"process {process} has {room.file} open: stop it")
@@ -188,7 +189,8 @@ class Restore:
         move(self.new, self.at, self.base)
         os.fsync(self.at)
 
-    def restore(self, backup: str, named: str) -> None:
+    def restore(self, backup: str, named: str, starts: bool) -> None:
+        """`starts` is whether somebody else starts the server afterwards."""
         self.own = True
         self.make_copy(backup)
         self.stop_server()
@@ -207,7 +209,7 @@ class Restore:
         if self.kept:
             print(f"the old room is in {self.kept}; to put it back: rooms-admin restore {named}"
                   f"{self.kept}")
-        if not self.start:
+        if not self.start and not starts:
             print(f"to start the server: systemctl start {self.room.unit}")
 
     def stop_server(self) -> None:
@@ -239,7 +241,7 @@ class Restore:
             raise Stop(why)
 
 
-def restore_room(conf: str, backup: str, start: bool) -> None:
+def restore_room(conf: str, backup: str, start: bool, starts: bool = False) -> None:
     """Without a backup it only cleans up after a run that was cut off."""
     room = settings.room(conf)
     with locks.lock(room.unit, 0):
@@ -253,7 +255,7 @@ def restore_room(conf: str, backup: str, start: bool) -> None:
                 refuse_while_served(room)
                 task.settle("an earlier restore")
             if found:
-                task.restore(found, f"--room {conf} " if conf else "")
+                task.restore(found, f"--room {conf} " if conf else "", starts)
         except (Stop, OSError) as stop:
             report.ignore_signals()
             if task.own:
@@ -275,7 +277,7 @@ def _start_all(tar: machine_tar.Tar) -> int:
         try:
             room = settings.room(conf)
             if not os.path.lexists(room.file):
-                restore_room(conf, "latest", False)
+                restore_room(conf, "latest", False, True)
         except (Stop, OSError) as fault:
             say(str(fault))
             failed += 1
