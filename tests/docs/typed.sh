@@ -235,12 +235,12 @@ types 'somebody is told' docs/operating 'install -y bsd-mailx' \
 holds 'by a mail' grep -qx 'Can you read this?' "$machine/srv/mails"
 shows 'and all is looked at' 'office: '
 rm "$machine/usr/local/bin/mail" "$machine/etc/aliases" "$machine/srv/mails"
-types 'a port' docs/operating 'echo PORT=8780'
+types 'a port' docs/operating 'set PORT=8780'
 does 'the room is there' \
   'curl -sf "http://127.0.0.1:8780/can/?" && curl -sf -u alice:typed http://127.0.0.1/me >/dev/null'
 does 'the rule is there' 'nft -f /usr/share/rooms/rooms.nft'
 types 'the ports' docs/operating 'nft list table'
-types 'a socket' docs/operating 'echo PORT= '
+types 'a socket' docs/operating 'set PORT= '
 does 'it is there' 'curl -sf --unix-socket /run/rooms/office/socket "http://localhost/can/?" &&
   curl -sf -u alice:typed http://127.0.0.1/me >/dev/null'
 
@@ -253,7 +253,7 @@ does 'the site with TLS' 'curl -sf --cacert /root/authority/authority.pem \
 types 'a public name' docs/operating 'install -y certbot' docs/operating certonly \
   docs/operating letsencrypt/live
 holds 'its certificate is used' grep -q letsencrypt "$machine/etc/nginx/sites-available/rooms"
-types 'back' docs/operating '/etc/rooms/site && rooms-admin setup'
+types 'back' docs/operating 'CERTIFICATE= KEY='
 does 'without TLS' 'curl -sf -u alice:typed http://127.0.0.1/me >/dev/null'
 
 # Lists.
@@ -368,7 +368,12 @@ types 'passwords' docs/directory 'rooms-admin groups --names' \
   docs/directory 'rooms-admin setup --directory /etc'
 shows 'are asked there' 'the directory has 2 users' 'file /etc/rooms/directory.apache'
 answers_as 'nothing answers in its place' 503
-types 'of a further room' docs/directory rooms/invoices.conf docs/directory invoices.apache
+types 'of a further room' docs/directory 'invoices PASSWORDS=' \
+  docs/directory invoices.apache
+statuses=2
+types 'guests' docs/directory GUESTS=yes
+shows 'of whom none has a second password' 'two passwords: alice, bob'
+does 'no guests' 'rooms-admin set GUESTS= && rooms-admin setup'
 types 'groups' docs/directory 'MOST=10' docs/directory '=rooms-admin groups
 systemctl enable --now rooms-directory@office.timer'
 shows 'come in' '+ hr,alice'

@@ -71,8 +71,8 @@ admin setup --directory "$PWD/settings"
 says 'other settings' 0 'new file /etc/rooms/directory'
 cp -Rp machine kept
 # A further room was told to ask the directory too.
-block docs/directory.md rooms/invoices.conf | sed \
-  -e "s#/etc/rooms#$PWD/machine&#" \
+block docs/directory.md 'invoices PASSWORDS=' | sed \
+  -e "s#rooms-admin set #$installed/sbin/&--destdir $PWD/machine #" \
   -e "s#rooms-admin setup#$installed/sbin/& --destdir $PWD/machine#" >pasted
 bash -eu pasted >/dev/null
 holds 'a further room asks it' grep -qF '(?<room_file>rooms-invoices|rooms)$' "$site"
@@ -186,8 +186,8 @@ holds 'a further room' awaits "$patience" answers 200 Carol:c /invoices/me
 answer Carol:c /invoices/me
 holds 'has names of its own' grep -qx $'Room-User: Carol\r' "$work/head"
 ask 'and passwords of its own' 401 - carol:carol-word /invoices/me
-block docs/directory.md rooms/invoices.conf | sed \
-  -e "s#/etc/rooms#$PWD/machine&#" \
+block docs/directory.md 'invoices PASSWORDS=' | sed \
+  -e "s#rooms-admin set #$installed/sbin/&--destdir $PWD/machine #" \
   -e "s#rooms-admin setup#$installed/sbin/& --destdir $PWD/machine#" >pasted
 bash -eu pasted >/dev/null
 take_front

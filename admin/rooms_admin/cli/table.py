@@ -21,6 +21,7 @@ VERBS: dict[str, str] = {
     "mine": "what each user was given further down, for the web interface",
     "until": "accesses whose end date is over, taken back",
     "full": "how much of a room is in use, for nginx",
+    "set": "settings of a room or of the site",
     "setup": "the machine and nginx's site, as the settings say",
     "add": "a further room, or the place of one on another machine",
     "remove": "a room is not served any more, and stays",

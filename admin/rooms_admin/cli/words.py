@@ -133,10 +133,11 @@ def _from_here(word: str) -> str:
     return os.path.join(os.getcwd(), word.removeprefix("./"))
 
 
-def room(parser: Parser, about: str = f"{_ROOM}; office without it") -> None:
+def room(parser: argparse._ActionsContainer, about: str = f"{_ROOM}; office without it") -> None:
     """The room of a verb: there is one way to name it. Before a part's word it counts too."""
+    is_part = isinstance(parser, Parser) and parser.is_part
     parser.add_argument("-r", "--room", metavar="ROOM", help=about, type=_from_here,
-                        default=argparse.SUPPRESS if parser.is_part else "")
+                        default=argparse.SUPPRESS if is_part else "")
 
 
 def rooms(parser: Parser, without: str) -> None:

@@ -14,7 +14,9 @@ def set_values(made: Changes, path: str, wanted: dict[str, str]) -> None:
     if wanted:
         text = settings.changed(template.read(made.root + path), wanted)
         said = ", ".join(f"{name}={value}" for name, value in wanted.items())
-        made.file(path, text.encode(errors="surrogateescape"), what=f", with {said}")
+        place = made.root + path
+        mode = stat.S_IMODE(os.stat(place).st_mode) if os.path.exists(place) else 0o644
+        made.file(path, text.encode(errors="surrogateescape"), mode, what=f", with {said}")
 
 
 def tell_gone(made: Changes) -> None:
