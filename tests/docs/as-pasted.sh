@@ -132,8 +132,8 @@ holds 'is denied' grep -q '^denied bits C no entry$' "$work/out"
 answers 'it is taken without a word' ' 204' alice PUT /dacl/letters "$(cat list.txt)"
 answers 'and holds for its sender' '{"at":"/letters","bits":"r","entry":null,"text":null} 403' \
   alice GET /folder/letters
-paste_in "$(blocks people.md 'office.rooms /letters dacl')"
-prints 'the operator sets another' 'done'
+paste_in "$(blocks people.md 'list set /letters')"
+prints 'the operator sets another' '- A:fdg:staff:rxtc' "+ A:fd:alice:$ALL" 'done'
 answers 'and she gets in' '[{"kind":"document","name":"reply"}] 200' alice GET /folder/letters
 answers 'the list of before' ' 204' alice PUT /dacl/letters 'list:a'
 bin/systemctl stop rooms

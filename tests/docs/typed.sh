@@ -222,10 +222,8 @@ types 'a folder' docs/operating 'rooms.example:80'
 shows 'is made' 201
 types 'groups' docs/operating 'cat >groups.csv'
 shows 'are taken' '+ sales,carol' 'groups 2, members 3'
-types 'lists' docs/operating 'runuser -u rooms bash' \
-  docs/operating 'office.rooms / dacl' docs/operating 'office.rooms / sacl'
-shows 'are taken' 'done'
-does 'the server starts' 'systemctl start rooms@office'
+types 'lists' docs/operating 'list set / ' docs/operating 'list set --sacl'
+shows 'are taken' '+ A:g:staff:rxtc' '+ U:fdF:EVERYONE@:rx' 'done'
 # The mail program is one of these tests; install/package has the warning where there is none.
 printf '#!/bin/sh\ncat >>/srv/mails\n' >"$machine/usr/local/bin/mail"
 chmod 755 "$machine/usr/local/bin/mail"
@@ -325,7 +323,7 @@ holds 'at which her password goes' \
 types 'a backup' docs/upgrading 'start rooms-nightly'
 asks_as 204 alice PUT /dacl/letters list:ap
 asks_as 403 alice GET /folder/letters
-types 'somebody is locked out' docs/people 'office.rooms /letters dacl'
+types 'somebody is locked out' docs/people 'list set /letters'
 asks_as 200 alice GET /folder/letters
 types 'the list of the night' docs/people '=rooms-admin lists /letters'
 shows 'is printed' A:fdg:staff:rwaxtc A:fi:OWNER@:d

@@ -6,6 +6,7 @@ from collections.abc import Sequence
 from types import ModuleType
 from typing import Any, NoReturn
 
+from . import alike
 from .report import Refused
 
 
@@ -65,20 +66,25 @@ class Parser(argparse.ArgumentParser):
         if self.parts:
             namespace, more = super().parse_known_args(args, namespace)
             if more:
-                self.error(f"no such option: {more[0]}")
+                self.no_option(more[0])
             return namespace, more
         at = args.index("--") if "--" in args else len(args)
         namespace, words = super().parse_known_args(args[:at], namespace)
         for one in words:
             if one.startswith("--"):
-                self.error(f"no such option: {one}")
+                self.no_option(one)
         if words and words[0][0] == "-" and len(words[0]) > 1 and not self.is_part:
-            self.error(f"no such option: {words[0]}")
+            self.no_option(words[0])
         words += args[at + 1:]
         namespace, more = self.words.parse_known_args(["--", *words] if words else [], namespace)
         if left := [one for one in more if one != "--"]:
             self.error(f"a word too many: '{left[0]}'")
         return namespace, left
+
+    def no_option(self, word: str) -> NoReturn:
+        name = word.partition("=")[0]
+        there = [one for action in self._actions for one in action.option_strings]
+        self.error(f"no such option: {name}{alike.meant(name, there)}")
 
     def shown(self) -> list[argparse.Action]:
         """What help names: words first, then options."""

@@ -63,14 +63,14 @@ def try_to_keep(room: Room, known: Known) -> None:
 
 
 def change(room: Room, before: set[Pair], joins: set[Pair], leaves: set[Pair]) -> set[Pair]:
-    """Who is there then. What was known goes first: a run that is cut off leaves nothing known, and
-    the next one looks. No disk of backups is touched while the server rests."""
+    """Who is there then, but for what somebody else changed by hand. What was known goes first: a
+    run that is cut off leaves nothing known, and the next one looks. No disk of backups is touched
+    while the server rests."""
     with contextlib.suppress(FileNotFoundError):
         if published.has_name(room):
             os.unlink(_path(room))
-    said = members.change(room, joins, leaves)
-    now = (before - leaves) | joins
-    return now if said.endswith(f" members {len(now)}") else members.read(room)
+    members.change(room, joins, leaves)
+    return (before - leaves) | joins
 
 
 def kept(room: Room) -> Known | None:

@@ -19,6 +19,11 @@ def copied(room: Room) -> Iterator[str]:
         yield os.path.join(made, room.base)
 
 
+def on(room: Room, copy: str, word: str) -> bytes:
+    """What a subcommand prints of that copy."""
+    return members.done(word, *program.on_copy(room, copy, [word], program.enough(room, copy)))
+
+
 def _rested(room: Room, words: tuple[str, ...]) -> list[bytes]:
     with server.at_rest(room):
         return [members.printed(room, word) for word in words]
@@ -31,9 +36,7 @@ def at(room: Room, *words: str, may_stop: bool = True) -> list[bytes]:
         return _rested(room, words)
     try:
         with copied(room) as copy:
-            enough = program.enough(room, copy)
-            return [members.done(word, *program.on_copy(room, copy, [word], enough))
-                    for word in words]
+            return [on(room, copy, word) for word in words]
     except NotHeld as why:
         if not may_stop:
             raise Stop(f"no look: {why}") from why
