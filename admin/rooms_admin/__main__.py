@@ -1,11 +1,13 @@
 """rooms-admin VERB: one command for all that an administrator does beside the program."""
+import argparse
 import io
 import os
 import sys
 from typing import Any
 
 from .cli import alike, manual, report, words as reading
-from .cli.table import OF_UNITS, OLD, VERBS
+from .cli.table import CHANGE, OF_UNITS, OLD, PARTS_THAT_CHANGE, VERBS
+from .host import journal
 
 
 def _run(verb: str, words: list[str]) -> int:
@@ -20,7 +22,21 @@ def _run(verb: str, words: list[str]) -> int:
     except reading.Asked as asked:
         print(manual.explain(verb, asked.parser), end="")
         return 0
+    if _changes(verb, given):
+        journal.tell(verb, words)
     return int(module.run(given))
+
+
+def _changes(verb: str, given: argparse.Namespace) -> bool:
+    """Whether a person has asked for a change. A unit's run is in the journal by its own name."""
+    if getattr(given, "dry_run", False) or getattr(given, "names", False) or (
+            "ROOMS_UNIT" in os.environ):
+        return False
+    if verb == "members":
+        return bool(given.file)
+    if verb in PARTS_THAT_CHANGE:
+        return given.what in PARTS_THAT_CHANGE[verb]
+    return verb in CHANGE
 
 
 def _version() -> int:

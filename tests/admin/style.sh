@@ -253,10 +253,11 @@ if [ "$(id -u)" = 0 ]; then
     >told/share/rooms/rooms_admin/__main__.py
   env -i PATH="$PWD/set" HOME="$PWD" TMPDIR="$PWD" OPENSSL_CONF="$PWD/x" ROOMS_ROOT="$PWD" \
     ROOMS_SETTINGS="$PWD" LD_LIBRARY_PATH="$PWD" LC_ALL=C TERM=dumb ROOMS_UNIT=u PORT=8780 \
-    MONITOR_UNIT=m MAINPID=7 told/sbin/rooms-admin >got 2>&1
+    MONITOR_UNIT=m MAINPID=7 SUDO_USER=carol \
+    SUDO_UID=1000 SUDO_COMMAND=x told/sbin/rooms-admin >got 2>&1
   printf '%s\n' HOME=/root LC_ALL=C MAINPID=7 MONITOR_UNIT=m \
     PATH=/usr/local/sbin:/usr/local/bin:/usr/sbin:/usr/bin:/sbin:/bin ROOMS_UNIT=u \
-    TERM=dumb >wanted
+    SUDO_USER=carol TERM=dumb >wanted
   same 'root is handed on nothing but these' got wanted
 else
   skip 'what root is handed on' 'not root'

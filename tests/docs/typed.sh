@@ -71,7 +71,7 @@ cp /etc/ssl/rooms.pem /etc/letsencrypt/live/rooms.example/fullchain.pem
 cp /etc/ssl/private/rooms.key /etc/letsencrypt/live/rooms.example/privkey.pem
 END
 for name in apache2-bin ldap-utils python3-ldap libapache2-mod-auth-gssapi \
-  libapache2-mod-auth-openidc rsync openssh-client bsd-mailx; do
+  libapache2-mod-auth-openidc rsync openssh-client bsd-mailx sudo; do
   stand_in_package "$name" </dev/null || fail 'what is typed' "no stand-in: $(cat said)"
 done
 # Of Apache and of a directory there is just enough that they are asked: install/directory,
@@ -231,7 +231,7 @@ statuses='[12]'
 types 'somebody is told' docs/operating 'install -y bsd-mailx' \
   docs/operating 'systemctl start rooms-nightly@office'
 holds 'by a mail' grep -qx 'Can you read this?' "$machine/srv/mails"
-shows 'and all is looked at' 'office: '
+shows 'and all is looked at' 'rooms WARNING - passwords and documents travel unencrypted'
 rm "$machine/usr/local/bin/mail" "$machine/etc/aliases" "$machine/srv/mails"
 types 'a port' docs/operating 'set PORT=8780'
 does 'the room is there' \
@@ -336,6 +336,16 @@ types 'who could change it' docs/people '=rooms-admin who --change /projects'
 shows 'alice' '/projects  alice  Co  remove  by '
 types 'a new password' docs/people '=rooms-admin user add bob' docs/people 'add bob --random' \
   docs/people 'user add bob --first'
+
+# A deputy, who has an account of the machine.
+stand_in visudo </dev/null
+mkdir -p "$machine/etc/sudoers.d"
+does 'an account' 'useradd carol'
+types 'a deputy' docs/operating usermod
+holds 'may do what is written for this room' \
+  grep -q '^  .*/rooms-admin user list --room office, ' "$machine/etc/sudoers.d/rooms-office"
+types 'who asked for what' docs/operating 'journalctl -t rooms-admin'
+types 'a deputy no more' docs/operating 'rm /etc/sudoers.d'
 
 # In and out.
 types 'a share of Windows' docs/in-and-out smbclient

@@ -231,6 +231,7 @@ if /usr/bin/python3 -c 'import ldap' 2>/dev/null && has htpasswd; then
   : >root/var/lib/rooms-passwords/rooms.htpasswd
   cp machine/etc/rooms/directory directory.kept
   good >machine/etc/rooms/directory
+  printf '%s\n' "FILE=$PWD/F" "BACKUPS=$PWD" "PROGRAM=$rooms" >>machine/etc/rooms/office.conf
   gives_one() { # NAME
     echo gravel | PATH=$PWD/bin:$PATH ROOMS_RUN=$PWD/run ROOMS_ROOT=$PWD/root \
       "$repo/admin/rooms-admin" user add "$1" -r "$PWD/machine/etc/rooms/office.conf" \

@@ -46,6 +46,10 @@ VERBS = {verb: about for kind in KINDS.values() for verb, about in kind.items()}
 # Units call these, and nobody types them.
 OF_UNITS = {"await": "wait until a room's server answers; its unit calls it",
             "tell": "mail what a unit said last; units call it when they fail"}
+# Those that change something, or the parts of one that do: each run of them is in the journal.
+CHANGE = {"groups", "handover", "until", "import", "restore", "add", "remove", "set", "setup",
+          "certificate"}
+PARTS_THAT_CHANGE = {"user": {"add", "change", "remove"}, "list": {"set"}}
 # What these verbs were called before.
 OLD = {"rooms-export": "export", "rooms-import": "import", "rooms-handover": "handover",
        "rooms-get": "get", "rooms-nightly": "backup", "rooms-restore": "restore",
