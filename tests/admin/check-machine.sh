@@ -6,15 +6,6 @@ if ! . "$here/lib/check.sh"; then
   return
 fi
 
-# A site without TLS, unless that is meant.
-mkdir -p root/etc/nginx/sites-enabled
-: >root/etc/nginx/sites-enabled/rooms
-printf '%s\n' CERTIFICATE= KEY= >root/etc/rooms/site
-checks 'no TLS' 1 'passwords and documents travel unencrypted: rooms-admin setup --tls'
-echo UNENCRYPTED=yes >>root/etc/rooms/site
-checks 'if that is meant' 0 'rooms OK'
-rm root/etc/nginx/sites-enabled/rooms
-
 # The certificate.
 mkdir -p root/etc/ssl/private
 certificate() { # DAYS

@@ -330,6 +330,8 @@ shows 'is printed' A:fdg:staff:rwaxtc A:fi:OWNER@:d
 types 'who can read this folder' docs/people '=rooms-admin who /letters'
 shows 'alice alone' 'alice  rwanNxDtThHdcCoy  remove  by A:fd:alice:rwanNxDtThHdcCoy' \
   'every other name  nothing'
+types 'all of one user' docs/people '=rooms-admin who --user bob'
+shows 'by the entries' '/  bob  x' '  by A::AUTHENTICATED@:xt'
 types 'a group' docs/people 'lists --group sales'
 shows 'has a user' 'member sales dana'
 types 'who could change it' docs/people '=rooms-admin who --change /projects'

@@ -211,31 +211,36 @@ def arguments(parser: words.Parser) -> None:
     words.rows(parser)
 
 
-def _file(given: argparse.Namespace) -> str:
+def _of_room(conf: str) -> str:
     """Settings that are refused may be why: only this line of them counts."""
-    if given.file and given.room:
-        raise Refused("bad arguments: FILE and --room both say which room it is")
-    conf = settings.file_of(given.room)
-    if given.file:
-        word = str(given.file)
-        if "/" in word or os.path.lexists(word):
-            return os.path.abspath(word)
-        conf = settings.file_of(word)
-        if not os.path.lexists(conf):
-            there = map(settings.name_of, glob.glob(f"{glob.escape(settings.HOME)}/*.conf"))
-            raise Refused(f"no room: {word} is neither a file here nor a room, as {conf} isn't "
-                          f"there{alike.meant(word, there)}")
     settings.lines(conf)
     file = settings.value(conf, "FILE")
     settings.need(file.startswith("/"), conf, "FILE", "an absolute path", file)
     return file
 
 
+def _named(word: str) -> str:
+    """The file of that path; or of that room, where no file here has the name."""
+    conf = settings.file_of(word)
+    if "/" in word or os.path.lexists(word):
+        return os.path.abspath(word)
+    if not os.path.lexists(conf):
+        there = map(settings.name_of, glob.glob(f"{glob.escape(settings.HOME)}/*.conf"))
+        raise Refused(f"no room: {word} is neither a file here nor a room, as {conf} isn't there"
+                      f"{alike.meant(word, there)}")
+    return _of_room(conf)
+
+
 def run(given: argparse.Namespace) -> int:
+    if given.file and given.room:
+        raise Refused("bad arguments: FILE and --room both say which room it is")
+    file = "" if given.file else _of_room(settings.file_of(given.room))
     program = os.path.abspath(given.program or settings.PROGRAM)
     if not (os.path.isfile(program) and os.access(program, os.X_OK)):
         raise Refused(f"no program: {program} isn't there or can't be run")
-    file = _file(given)
+    if given.user:
+        _user(given.user, "/")
+    file = file or _named(given.file)
     user = _user(given.user, os.path.dirname(file))
     if os.getuid() not in (0, user.pw_uid):
         raise Refused(f"not root: only root and {user.pw_name} can look at it")
