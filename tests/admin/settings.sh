@@ -46,7 +46,8 @@ cp $conf before
 for wrong in \
   'no such name;KEP=3;no setting: /etc/rooms/office.conf has no KEP; did you mean KEEP?' \
   "no value;KEEP;bad arguments: 'KEEP' isn't NAME=VALUE" \
-  "a bad one;KEEP=-1;bad settings: KEEP in /etc/rooms/office.conf isn't a number: '-1'" \
+  "a bad one;KEEP=-1;bad settings: KEEP in /etc/rooms/office.conf isn't a number of nights" \
+  "half of one;KEEP=1 nights 8 weeks;bad settings: KEEP in /etc/rooms/office.conf isn't" \
   'a quote that goes on;TITLE="x;goes on in the next one for systemd' \
   'a backslash at the end;TITLE=x\;goes on in the next one for systemd' \
   'one of two;REVIEW=/audit;REVIEW and REVIEWER in /etc/rooms/office.conf need one another' \

@@ -415,6 +415,9 @@ does 'a copy' 'rooms-admin standby --room office
   cp -a /var/backups/rooms/office/standby/. /var/backups/rooms/standby
   systemctl disable --now rooms@office'
 types 'hourly copies' docs/backup HOURS=24
+types 'weeks, months and years' docs/backup 'KEEP='
+holds 'are kept' \
+  grep -qx 'KEEP=14 nights 8 weeks 12 months 5 years' "$machine/etc/rooms/office.conf"
 types 'it takes over' docs/machines 'rooms-admin restore /var/backups/rooms/standby'
 asks_as 200 alice GET /folder/letters
 types 'the old machine no more' docs/machines 'now rooms@office rooms-{'

@@ -8,6 +8,7 @@ from dataclasses import dataclass, field, fields
 from typing import Any
 
 from ..host import locks
+from . import keep as keeping
 from .names import is_host, is_user
 from ..cli.report import Refused
 
@@ -219,7 +220,7 @@ class Room(Kept):
     """A room of this machine. `owner` and `group` are whose its folder is."""
     owner: int
     group: int
-    keep: int = setting("KEEP", r"0|[1-9][0-9]{0,5}", "a number", "30", int)
+    keep: keeping.Keep = setting("KEEP", keeping.FORM, keeping.WHAT, "30", keeping.read)
     memory: int = setting("MEMORY", r"([1-9][0-9]{2,6})?", "a number of megabytes, 100 or more",
                           reads=lambda text: int(text or 0))
     limit: str = setting("LIMIT", r"([1-9][0-9]{0,6}|none)?",
