@@ -49,6 +49,13 @@ def move(source: int | None, target: int | None, name: str) -> None:
         os.rename(name, name, src_dir_fd=source, dst_dir_fd=target)
 
 
+def verified(room: Room, copied: str, backup: str) -> None:
+    status, out, text = program.on_copy(room, copied, ["verify"])
+    if status != 0:
+        raise Stop(f"no backup: verify of {backup}/{room.base} gives status {status}: "
+                   f"{text or out.decode(errors='replace').strip()}")
+
+
 class Restore:
     """All is done below folders that are open, since they are the room's user's."""
 
@@ -149,10 +156,7 @@ class Restore:
         """What was verified is a private copy, where the room's user changes nothing, and that one
         gets to the room's folder. Verifying writes to it; the backup isn't changed."""
         with private_server.private_copy(self.room, backup) as copied:
-            status, out, text = program.on_copy(self.room, copied, ["verify"])
-            if status != 0:
-                raise Stop(f"no backup: verify of {backup}/{self.base} gives status {status}: "
-                           f"{text or out.decode(errors='replace').strip()}")
+            verified(self.room, copied, backup)
             self.make_stage()
             assert self.new is not None
             try:
@@ -268,6 +272,18 @@ def restore_room(conf: str, backup: str, start: bool, starts: bool = False) -> N
             task.start_server()
 
 
+def would_restore(conf: str, backup: str, start: bool) -> None:
+    """The backup is verified as it would be; nothing is stopped, and nothing changes."""
+    room = settings.room(conf)
+    with locks.lock(room.unit, 0):
+        found = backups.find(room, backup)
+        with private_server.private_copy(room, found) as copied:
+            verified(room, copied, found)
+    print(f"would: restored {room.file} from {found}")
+    if start:
+        print(f"would: {room.unit} is stopped for a moment, and started")
+
+
 def _start_all(tar: machine_tar.Tar) -> int:
     """What is left on a new machine. What is done already is done again, or changes nothing."""
     failed = 0
@@ -338,7 +354,7 @@ def bring_back_machine(given: argparse.Namespace) -> int:
 
 
 def arguments(parser: words.Parser) -> None:
-    parser.forms = ["[--room ROOM] [--start] BACKUP", "[--room ROOM] [--start] --undo",
+    parser.forms = ["[--room ROOM] [--start] [--dry-run] BACKUP", "[--room ROOM] [--start] --undo",
                     "[--room ROOM] --machine [--dry-run] [--start] BACKUP"]
     words.word(parser, "backup", "[BACKUP]", "a folder, the name of a backup, or latest")
     words.room(parser)
@@ -347,7 +363,7 @@ def arguments(parser: words.Parser) -> None:
     words.flag(what, "--machine", "bring back what the machine had beside its rooms")
     words.flag(parser, "--start", "stop the server if it runs, and start it; with --machine, "
                "restore rooms that aren't there, and enable what was enabled")
-    words.flag(parser, "--dry-run", "with --machine, print what would be done")
+    words.dry_run(parser, "what would be done, once the backup was verified")
 
 
 def run(given: argparse.Namespace) -> int:
@@ -355,8 +371,8 @@ def run(given: argparse.Namespace) -> int:
     if bool(given.backup) == given.undo:
         raise Refused("bad arguments: --undo takes no BACKUP" if given.undo else
                       "bad arguments: BACKUP is missing, or --undo")
-    if given.dry_run and not given.machine:
-        raise Refused("bad arguments: --dry-run is for --machine")
+    if given.dry_run and given.undo:
+        raise Refused("bad arguments: --undo has no --dry-run")
     if given.machine:
         return bring_back_machine(given)
     # A path may be named by where this was called.
@@ -365,5 +381,8 @@ def run(given: argparse.Namespace) -> int:
         backup = os.path.abspath(backup)
     conf = given.room and settings.file_of(given.room)
     os.chdir("/")
-    restore_room(conf, backup, given.start)
+    if given.dry_run:
+        would_restore(conf, backup, given.start)
+    else:
+        restore_room(conf, backup, given.start)
     return 0
