@@ -1,20 +1,42 @@
 """rooms-admin VERB: one command for all that an administrator does beside the program."""
+import argparse
 import io
 import os
 import sys
+from typing import Any
 
-from .cli import manual, report, words as reading
-from .cli.table import OLD, VERBS
+from .cli import alike, manual, report, words as reading
+from .cli.table import CHANGE, OF_UNITS, OLD, PARTS_THAT_CHANGE, VERBS
+from .host import journal
 
 
 def _run(verb: str, words: list[str]) -> int:
+    if verb not in VERBS and verb not in OF_UNITS:
+        meant = alike.meant(verb, [*VERBS, "help"])
+        raise report.Refused(f"bad arguments: there is no verb '{verb}'{meant}; "
+                             "rooms-admin --help")
+    report.prog = f"rooms-admin {verb}"
     module = manual.module_of(verb)
     try:
         given = reading.read(verb, module, words)
     except reading.Asked as asked:
         print(manual.explain(verb, asked.parser), end="")
         return 0
+    if _changes(verb, given):
+        journal.tell(verb, words)
     return int(module.run(given))
+
+
+def _changes(verb: str, given: argparse.Namespace) -> bool:
+    """Whether a person has asked for a change. A unit's run is in the journal by its own name."""
+    if getattr(given, "dry_run", False) or getattr(given, "names", False) or (
+            "ROOMS_UNIT" in os.environ):
+        return False
+    if verb == "members":
+        return bool(given.file)
+    if verb in PARTS_THAT_CHANGE:
+        return given.what in PARTS_THAT_CHANGE[verb]
+    return verb in CHANGE
 
 
 def _version() -> int:
@@ -24,8 +46,27 @@ def _version() -> int:
     return 0
 
 
+def _complete(command: str, words: list[str]) -> int:
+    from .verbs import completing
+    print("".join(f"{one}\n" for one in completing.of(command, words)), end="")
+    return 0
+
+
+def _options_first(words: list[str]) -> list[str]:
+    """The same words with the verb before its options: --room has a value, and other options that
+    stand there have none."""
+    at = 0
+    while at < len(words) and words[at].startswith("-"):
+        at += 2 if words[at] in ("-r", "--room") else 1
+    before, rest = words[:at], words[at:]
+    end = rest.index("--") if "--" in rest else len(rest)
+    return [*rest[:end], *before, *rest[end:]]
+
+
 def _asked(words: list[str], verb: str) -> int:
     if not verb:
+        if words[:1] == ["help"]:
+            words = [*words[1:], "--help"]
         if words == ["--version"]:
             return _version()
         if words[:1] == ["--manual"]:
@@ -37,11 +78,35 @@ def _asked(words: list[str], verb: str) -> int:
         if words[:1] == ["--words"]:
             print("\n".join(manual.words(words[1:])))
             return 0
+        if words[:1] == ["--complete"] and len(words) > 2:
+            return _complete(words[1], words[2:])
+        words = _options_first(words)
         verb = words.pop(0)
-    if verb not in VERBS:
-        raise report.Refused(f"bad arguments: there is no verb '{verb}'; rooms-admin --help")
-    report.prog = f"rooms-admin {verb}"
     return _run(verb, words)
+
+
+class _Output(io.FileIO):
+    """Whoever looks at the first lines alone, as head does, ends nothing: a verb isn't cut off in
+    the middle of what it does, and its status is its own."""
+
+    def write(self, data: Any, /) -> int:
+        try:
+            return super().write(data)
+        except BrokenPipeError:
+            nobody = os.open(os.devnull, os.O_WRONLY | os.O_CLOEXEC)
+            os.dup2(nobody, self.fileno())
+            os.close(nobody)
+            return len(data)
+
+
+def _open_output() -> None:
+    for name in ("stdout", "stderr"):
+        stream = getattr(sys, name)
+        if isinstance(stream, io.TextIOWrapper):
+            raw = _Output(stream.fileno(), "w", closefd=False)
+            setattr(sys, name, io.TextIOWrapper(
+                io.BufferedWriter(raw), stream.encoding, errors="backslashreplace",
+                line_buffering=stream.line_buffering))
 
 
 def _flush() -> None:
@@ -60,9 +125,7 @@ def _let_go_of_output() -> None:
 
 
 def main(words: list[str] | None = None, name: str = "") -> int:
-    for stream in (sys.stdout, sys.stderr):
-        if isinstance(stream, io.TextIOWrapper):
-            stream.reconfigure(errors="backslashreplace")
+    _open_output()
     report.catch_signals()
     words = list(sys.argv[1:] if words is None else words)
     name = name or os.path.basename(sys.argv[0])
@@ -84,8 +147,6 @@ def main(words: list[str] | None = None, name: str = "") -> int:
         return stop.status
     except OSError as fault:
         _let_go_of_output()
-        if isinstance(fault, BrokenPipeError):
-            return 1
         report.say(f"failed: {fault}")
         return 1
 

@@ -33,11 +33,16 @@ for status in 404 502 503 504; do
   checks "nginx says $status" 2 "rooms CRITICAL - office: nginx answers $status for it"
 done
 # Beside other sites of nginx's it is asked by the site's name, and knows another site's answer.
-printf '%s\n' 'HOSTS=docs.example rooms.example' CERTIFICATE= KEY= >root/etc/rooms/site
+printf '%s\n' 'HOSTS=docs.example rooms.example' CERTIFICATE= KEY= UNENCRYPTED=yes \
+  >root/etc/rooms/site
 echo 401 >front.status
 : >front.asked
 checks 'the site of a name' 0 'rooms OK - office: answers, nginx answers, '
 holds 'is asked by that' grep -qx 'docs.example /can/?' front.asked
+# It has no TLS, which somebody has said is meant so.
+sed -i /UNENCRYPTED/d root/etc/rooms/site
+checks 'no TLS' 1 'rooms WARNING - passwords and documents travel unencrypted: rooms-admin setup'
+echo UNENCRYPTED=yes >>root/etc/rooms/site
 for status in 200 401 403; do
   echo "$status" >front.status
   for field in '' 'Content-Security-Policy: default-src *' \

@@ -64,6 +64,35 @@ offers 'the last backup, or a file' 'latest latest.tar' rooms-restore lat
 offers 'the last backup, or a file, of a verb' 'latest latest.tar' rooms-admin restore lat
 offers 'the way back from a directory' none rooms-setup --directory no
 offers 'the same of the verb' none rooms-admin setup --directory no
+# Names of rooms, backups, users and groups, which may have signs of the shell.
+mkdir -p named/backups/office/2026-11-20.040000 named/backups/office/2026-11-21.040000 \
+  root/var/lib/rooms-web/office root/etc/nginx named/folder
+chmod 700 named/backups named/backups/*/ named/backups/*/*
+printf '%s\n' "FILE=$PWD/named/folder/F" "BACKUPS=$PWD/named/backups" PROGRAM=/bin/true \
+  >named/office.conf
+cp named/office.conf 'named/$(touch taken).conf'
+for night in named/backups/office/*/; do
+  : >"${night}F"
+  chmod 600 "${night}F"
+done
+web=root/var/lib/rooms-web/office
+printf '%s\n' 'group,user after 0  of ' staff,bob 'sales,OFFICE\dana' >$web/members.csv
+printf '%s\n' 'eve:x' '$(touch taken):x' '# two words' 'a+$HOME:x' >root/etc/nginx/rooms.htpasswd
+knows() { ROOMS_SETTINGS=$PWD/named ROOMS_ROOT=$PWD/root offers "$@"; }
+knows 'rooms' 'office' rooms-admin backup --room offi
+knows 'no other one' '' rooms-admin backup --room '$'
+knows 'backups' '2026-11-20.040000 2026-11-21.040000' rooms-admin restore 2026
+knows 'backups of an option' '2026-11-21.040000' rooms-admin who --backup 2026-11-21
+knows 'backups of a room' '2026-11-20.040000' rooms-admin get --room office 2026-11-20
+knows 'users' 'bob' rooms-admin user remove b
+knows 'users as they are called' 'a+$HOME' rooms-admin user change a
+knows 'with a backslash' 'OFFICE\dana' rooms-admin user remove OFF
+knows 'users of an option' 'eve' rooms-admin handover --as e
+knows 'groups' 'sales staff' rooms-admin user change eve --add s
+knows 'groups to leave' 'sales' rooms-admin user change eve --drop sa
+holds 'nothing in a name was run' is_missing taken
+offers 'help of a verb' 'standby' rooms-admin help sta
+offers 'help of a part' 'remove' rooms-admin help user re
 offers 'a new name is not known' '' rooms-add con
 offers 'nor is a user of a room' '' rooms-import --as con
 offers 'a user of the machine' root rooms-doctor --user roo

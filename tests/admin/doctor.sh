@@ -83,6 +83,17 @@ new_file
 state() { ls -l --time-style=full-iso var && cksum var/*; }
 state >before
 well 'a room that is well'
+# It is named as the room too, and a word that is neither is no file of this folder.
+echo "FILE=$file" >settings/office.conf
+doctor office
+told 'a room by its name' 1 "read-only: the unit rooms@office may not write there: "
+doctor ofice
+told 'a mistyped one' 2 "no room: ofice is neither a file here nor a room" 'did you mean office?'
+rm settings/office.conf
+cd var || return
+doctor F
+cd .. || return
+told 'a file by its name here' 0 "nothing is wrong: $user can open $file, and it is sound"
 state >after
 same 'is not touched' after before
 # The program runs as the room's user alone, on whatever the file holds.

@@ -1,4 +1,4 @@
-# user add and user remove, cut off at each of their calls of the system.
+# user add, change and remove, cut off at each of their calls of the system.
 
 . "$here/lib/cut-people.sh"
 if ! has htpasswd; then
@@ -47,11 +47,27 @@ somebody_joins() {
   at_each_call 'user add' 20
   unset typed
 }
+somebody_changes() {
+  before() { afresh; }
+  whole() { passwords_are_whole "$1" nobody; }
+  again() {
+    told "$1: the same command" 0 'groups 1, members 2'
+    members_are "$1: does all of it" clerks,bob clerks,carol
+    nothing_else "$1"
+  }
+  words=(user change bob --add clerks --drop staff --room "$PWD/office.conf")
+  at_each_call 'user change' 10
+}
 somebody_leaves() {
   before() { afresh; }
   whole() { passwords_are_whole "$1" bob; }
   again() {
-    told "$1: the same command" 0 'left out 0'
+    # Of the last reply nothing may be left to do.
+    if [ "$status" = 1 ]; then
+      told "$1: the same command, once all is done" 1 'nobody: bob has no password'
+    else
+      told "$1: the same command" 0 'left out 0'
+    fi
     holds "$1: bob has no password" [ "$(grep -c '^bob:' "$passwords")" = 0 ]
     members_are "$1: and is in no group" clerks,carol
     holds "$1: what was his is given" \
@@ -65,6 +81,7 @@ somebody_leaves() {
 does_all() {
   make_room
   somebody_joins
+  somebody_changes
   somebody_leaves
   unit stop
 }

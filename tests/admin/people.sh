@@ -180,12 +180,29 @@ END
   room_verb user list
   as_listed 'where a directory has them' 'OFFICE\dave  password elsewhere  clerks' \
     'alice  password elsewhere  staff' 'carol  password elsewhere  staff'
+  typed=typed room_verb user add dora
+  says 'a password that nobody asks for' 2 'passwords elsewhere: those of office'
+  setting GUESTS yes
+  room_verb user list
+  as_listed 'where guests have theirs in the file' '..  password' \
+    'OFFICE\dave  password  clerks' "$odd  password" 'alice  password  staff' 'bob  password' \
+    'carol  password  staff' 'eve  password' 'zoe  first password'
+  setting PASSWORDS session
+  typed=typed room_verb user add dora
+  says 'nor one beside sessions' 2 'passwords elsewhere: those of office'
+  setting GUESTS ''
   setting PASSWORDS file
   room_verb user list bob
   says 'with a name' 2 "bad arguments: a word too many: 'bob'"
   room_verb user add bob --json
   says 'an option of list' 2 'bad arguments: no such option: --json; rooms-admin user add'
   rm "${passwords%.htpasswd}.first"
+
+  # Root may give one that a user could not choose, and is told so.
+  echo x >short
+  typed=short room_verb user add zoe
+  says 'a password of one letter' 0 'a short password, which users couldn'"'"'t choose'
+  room_verb user remove zoe
 
   # While a password is asked for, nothing is locked.
   mkfifo asking

@@ -48,8 +48,22 @@ unchanged() { # NAME
 old_office
 unit start
 restores good
-says 'while the server runs' 2 'the server runs'
+says 'while the server runs' 2 "the server runs (rooms is 'active'): --start stops it for a moment"
 unit_runs 'which goes on'
+# What would be done, by a server that goes on.
+cksum office/* >sums
+restores --dry-run --start good
+says 'what would be done' 0 "would: restored $PWD/office/F from $PWD/backups/good"
+restores --dry-run torn
+says 'of no sound one' 1 "no backup: verify of $PWD/backups/torn/F gives status"
+restores --dry-run none
+says 'of none' 2 'no backup'
+restores --dry-run --undo
+says 'of none that was cut off' 2 'bad arguments: --undo has no --dry-run'
+cksum office/* | cmp -s sums -
+status=$?
+holds 'and nothing is done' [ "$status" = 0 ]
+unit_runs 'nor stopped'
 unit stop
 old_office
 sleep 100 7<office/F &

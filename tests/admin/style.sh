@@ -81,7 +81,7 @@ if has groff; then
   same 'troff has no complaint' found /dev/null
 fi
 run_admin --words
-grep -v -e '^--' "$work/out" >verbs
+grep -v -e '^--' -e '^help$' "$work/out" >verbs
 holds 'there are verbs' [ "$(wc -l <verbs)" -ge 9 ]
 while IFS= read -r verb; do
   holds "help names $verb" grep -q "^  $verb  *[a-z]" help
@@ -116,7 +116,54 @@ while read -r -a verb; do
   told "${verb[*]}: another option" 2 'bad arguments: no such option: --no-such-option'
 done <forms
 run_admin no-such-verb
-told 'no such verb' 2 "bad arguments: there is no verb 'no-such-verb'"
+told 'no such verb' 2 "bad arguments: there is no verb 'no-such-verb'; rooms-admin --help"
+# What units call isn't shown, and is there.
+for verb in await tell; do
+  holds "$verb isn't in help" [ "$(grep -c "^  $verb " help)$(grep -cx "$verb" verbs)" = 00 ]
+  run_admin "$verb" --help
+  holds "$verb says what it is" grep -q "^Usage: rooms-admin $verb" "$work/out"
+done
+# Help by its own word; what somebody may have meant; options before the verb.
+run_admin help
+same 'help as a word' "$work/out" help
+for words in backups 'user add'; do
+  # shellcheck disable=SC2086
+  run_admin $words --help
+  cp "$work/out" wanted
+  # shellcheck disable=SC2086
+  run_admin help $words
+  same "help of $words" "$work/out" wanted
+done
+for typed in 'usr list;there is no verb '"'usr'"'; did you mean user?' \
+  'hlep;did you mean help?' 'backups --jsn;no such option: --jsn; did you mean --json?' \
+  'user add eve --gruops a;no such option: --gruops; did you mean --groups?'; do
+  read -r -a words <<<"${typed%%;*}"
+  run_admin "${words[@]}"
+  told "mistyped: ${typed%%;*}" 2 "${typed#*;}"
+done
+run_admin backups --json --room none
+cp "$work/err" wanted
+for typed in '--room none --json backups' '-r none backups --json' '--json -r none backups' \
+  '--json backups --room none'; do
+  read -r -a words <<<"$typed"
+  run_admin "${words[@]}"
+  same "the verb behind options: $typed" "$work/err" wanted
+done
+# Whoever reads the first lines alone ends nothing, and the status is the verb's own.
+status_of() { # WORD ..: of a run that nobody reads
+  { sleep 0.3; "$admin" "$@" </dev/null 2>&1; echo "$?" >status; } | true
+  cat status
+}
+holds 'output that nobody reads' [ "$(status_of --manual)" = 0 ]
+holds 'a refusal that nobody reads' [ "$(status_of no-such-verb)" = 2 ]
+mkdir -p unread/etc/rooms
+printf '%s\n' FILE=/F BACKUPS=/b KEEP=1 >unread/etc/rooms/office.conf
+holds 'a change that nobody reads' \
+  [ "$(status_of set --destdir "$PWD/unread" KEEP=2 HOURS=3)" = 0 ]
+holds 'is done whole' \
+  [ "$(tail -n 2 unread/etc/rooms/office.conf | tr '\n' ' ')" = 'KEEP=2 HOURS=3 ' ]
+"$admin" --help >/dev/full 2>"$work/err"
+holds 'a full disk is a fault' [ "$?" = 1 ]
 
 # The version, and the rooms of a machine: two served here, one elsewhere.
 mkdir -p rooms-of bin
@@ -206,10 +253,11 @@ if [ "$(id -u)" = 0 ]; then
     >told/share/rooms/rooms_admin/__main__.py
   env -i PATH="$PWD/set" HOME="$PWD" TMPDIR="$PWD" OPENSSL_CONF="$PWD/x" ROOMS_ROOT="$PWD" \
     ROOMS_SETTINGS="$PWD" LD_LIBRARY_PATH="$PWD" LC_ALL=C TERM=dumb ROOMS_UNIT=u PORT=8780 \
-    MONITOR_UNIT=m MAINPID=7 told/sbin/rooms-admin >got 2>&1
+    MONITOR_UNIT=m MAINPID=7 SUDO_USER=carol \
+    SUDO_UID=1000 SUDO_COMMAND=x told/sbin/rooms-admin >got 2>&1
   printf '%s\n' HOME=/root LC_ALL=C MAINPID=7 MONITOR_UNIT=m \
     PATH=/usr/local/sbin:/usr/local/bin:/usr/sbin:/usr/bin:/sbin:/bin ROOMS_UNIT=u \
-    TERM=dumb >wanted
+    SUDO_USER=carol TERM=dumb >wanted
   same 'root is handed on nothing but these' got wanted
 else
   skip 'what root is handed on' 'not root'

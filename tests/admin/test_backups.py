@@ -2,6 +2,7 @@
 import argparse
 import contextlib
 import dataclasses
+import datetime
 import io
 import os
 import sys
@@ -19,6 +20,7 @@ from rooms_admin.host import locks, safe, tempdirs, waiting  # noqa: E402
 from rooms_admin.room import (backups, dump, known, members, passwords,  # noqa: E402
                               program, published, server, settings, texts, tidying)
 from rooms_admin.room.backups import Backup  # noqa: E402
+from rooms_admin.room.keep import Keep, read  # noqa: E402
 from rooms_admin.verbs import backups as listing, groups, hours, latest, people  # noqa: E402
 
 
@@ -169,9 +171,10 @@ class Found(Folder):
                 unittest.mock.patch.object(published, "FOLDER", f"{self.home}/web"):
             self.assertEqual((run.known(), known.newest(self.room).members),
                              (None, {("staff", "alice")}))
-            with unittest.mock.patch.object(members, "write", return_value="done"), \
+            with unittest.mock.patch.object(members, "change",
+                                            return_value="joined 1, left 0, members 2"), \
                     unittest.mock.patch.object(passwords, "password_files", return_value=[]):
-                known.replace(self.room, both)
+                self.assertEqual(known.change(self.room, {("staff", "alice")}, both, set()), both)
                 self.assertIsNone(known.kept(self.room))
                 for shown in ("no", "names"):
                     room = dataclasses.replace(self.room, people=shown)
@@ -180,9 +183,9 @@ class Found(Folder):
             # What isn't of this file is no news for groups.
             known.keep(self.room, known.Known({("a", "b")}, 0))
             self.assertIsNone(run.known())
-            with unittest.mock.patch.object(members, "write", side_effect=Stop("no")), \
+            with unittest.mock.patch.object(members, "change", side_effect=Stop("no")), \
                     self.assertRaises(Stop):
-                known.replace(self.room, both)
+                known.change(self.room, set(), both, set())
             self.assertIsNone(known.kept(self.room))
             known.try_to_keep(self.room, known.here(self.room, both))
             os.replace(self.room.file, f"{self.room.file}.before")
@@ -323,17 +326,56 @@ class Found(Folder):
 class Goes(Folder):
     def test_the_oldest_go(self) -> None:
         one, two, three = (Backup(n, f"2026-01-0{n}.040000", "/b") for n in (1, 2, 3))
-        self.assertEqual(tidying.beyond([one, two, three], 2, "2026-01-04.040000"), [one, two])
-        self.assertEqual(tidying.beyond([one, two, three], 9, "2026-01-04.040000"), [])
-        self.assertEqual(tidying.beyond([], 1, "2026-01-04.040000"), [])
+        self.assertEqual(tidying.beyond([one, two, three], Keep(2), "2026-01-04.040000"),
+                         [one, two])
+        self.assertEqual(tidying.beyond([one, two, three], Keep(9), "2026-01-04.040000"), [])
+        self.assertEqual(tidying.beyond([], Keep(1), "2026-01-04.040000"), [])
 
     def test_nothing_younger_than_what_stays(self) -> None:
         """A lower number on the youngest one doesn't make it go; nor does a clock set back."""
         one, two = (Backup(n, f"2026-01-0{n}.040000", "/b") for n in (1, 2))
         young = Backup(0, "2026-01-03.040000", "/b")
-        self.assertEqual(tidying.beyond([young, one, two], 2, "2026-01-04.040000"), [one])
-        self.assertEqual(tidying.beyond([young, one, two], 3, "2026-01-04.040000"), [])
-        self.assertEqual(tidying.beyond([one, two, young], 1, "2025-12-01.040000"), [])
+        self.assertEqual(tidying.beyond([young, one, two], Keep(2), "2026-01-04.040000"), [one])
+        self.assertEqual(tidying.beyond([young, one, two], Keep(3), "2026-01-04.040000"), [])
+        self.assertEqual(tidying.beyond([one, two, young], Keep(1), "2025-12-01.040000"), [])
+
+    def test_weeks_months_and_years(self) -> None:
+        """Night after night for six years: the last nights, and the last one of each period."""
+        keep = read("14 nights 8 weeks 12 months 5 years")
+        self.assertEqual(keep, Keep(14, 8, 12, 5))
+        day, left = datetime.date(2020, 1, 1), list[Backup]()
+        for number in range(1, 2193):
+            name = f"{day}.040000"
+            for one in tidying.beyond(left, keep, name):
+                left.remove(one)
+            left.append(Backup(number, name, "/b"))
+            day += datetime.timedelta(1)
+        self.assertEqual(day, datetime.date(2026, 1, 1))
+        nights = [f"2025-12-{n}" for n in range(18, 32)]
+        # Sundays, which end a week; the ends of months and of years.
+        weeks = ["2025-11-16", "2025-11-23", "2025-11-30", "2025-12-07", "2025-12-14", "2025-12-21",
+                 "2025-12-28"]
+        ends = (31, 28, 31, 30, 31, 30, 31, 31, 30, 31, 30)
+        months = [f"2025-{month:02}-{last}" for month, last in enumerate(ends, 1)]
+        years = ["2021-12-31", "2022-12-31", "2023-12-31", "2024-12-31"]
+        self.assertEqual([one.name[:10] for one in left],
+                         sorted({*nights, *weeks, *months, *years}))
+
+    def test_what_keep_may_say(self) -> None:
+        for text, wanted in (("30", Keep(30)), ("0", Keep(0)), ("7 nights", Keep(7)),
+                             ("2 nights 3 years", Keep(2, years=3)),
+                             ("10 nights 4 weeks 6 months", Keep(10, 4, 6))):
+            self.assertTrue(settings.of_kind(settings.Room)["keep"].fits(text), text)
+            self.assertEqual(read(text), wanted)
+        for text in ("", "-1", "1 nights 2 weeks", "0 nights", "8 weeks", "30 weeks 2 nights",
+                     "30 nights 0 weeks", "30 nights, 2 weeks", "30 nights 2 weeks 2 weeks",
+                     "1234567", "30 nights "):
+            self.assertFalse(settings.of_kind(settings.Room)["keep"].fits(text), text)
+
+    def test_a_name_that_is_no_day_stays_alone(self) -> None:
+        odd = Backup(1, "2026-13-45.040000", "/b")
+        two = Backup(2, "2026-01-02.040000", "/b")
+        self.assertEqual(tidying.beyond([odd, two], Keep(2, 1), "2026-01-03.040000"), [])
 
     def test_what_was_cut_off_is_told_and_what_cannot_be_read_is_not(self) -> None:
         os.makedirs(f"{self.backups}/office/2026-01-01.040000.part", 0o700)

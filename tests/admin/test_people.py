@@ -189,7 +189,7 @@ class Runs(unittest.TestCase):
     def told(self, night: bytes, now: bytes | None = None,
              last: datetime.date | None = None) -> list[str]:
         with tempfile.TemporaryDirectory() as place, unittest.mock.patch.object(
-                until.members, "listed", return_value=night if now is None else now):
+                until.members, "printed", return_value=night if now is None else now):
             with open(f"{place}/lists.txt", "wb") as lists:
                 lists.write(night)
             with open(f"{place}/lists.txt", "rb") as source:

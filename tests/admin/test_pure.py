@@ -214,7 +214,7 @@ class Lists(unittest.TestCase):
         bad = {"FILE": "x", "PORT": "0", "BACKUPS": "x", "KEEP": "-1", "MEMORY": "99",
                "LIMIT": "0", "STANDBY": "x", "MAIL": "-x", "REVIEW": "/x/", "REVIEWER": "a b",
                "UNIT": "-x", "PROGRAM": "x", "PASSWORDS": "none", "HOST": "a b", "BEHIND": "no",
-               "DRIVE": "no", "PEOPLE": "all", "OWN_PASSWORDS": "",
+               "DRIVE": "no", "GUESTS": "no", "PEOPLE": "all", "OWN_PASSWORDS": "",
                "EARLIER": "yes", "EARLIER_FROM": "2026-11", "HOURS": "1000"}
         self.assertEqual({*bad, "TITLE"}, set(settings.known(settings.Room)))
         with tempfile.TemporaryDirectory() as at:
@@ -467,20 +467,20 @@ class Words(unittest.TestCase):
             self.read("get")
         with self.assertRaisesRegex(
                 Refused, r"; rooms-admin user remove \[--room ROOM\] \[--to HEIR \| --password\] "
-                "NAME$"):
+                r"\[--dry-run\] NAME$"):
             self.read("user", "remove", "--password")
-        with self.assertRaisesRegex(Refused, "'?add'?, '?remove'?, '?list.*; rooms-admin user add"):
+        with self.assertRaisesRegex(Refused, "'?add'?, '?change'?, '?rem.*; rooms-admin user add"):
             self.read("user", "rename", "bob")
 
     def test_what_is_explained(self) -> None:
         """All of a verb, or of a part of one, wherever that is asked."""
         for typed, usages in ((["get", "--help"], 1), (["get", "latest", "-h"], 1),
-                              (["user", "-h"], 4), (["user", "add", "eve", "--help"], 2)):
+                              (["user", "-h"], 5), (["user", "add", "eve", "--help"], 2)):
             with self.assertRaises(words.Asked) as asked:
                 self.read(*typed)
             text = manual.explain(typed[0], asked.exception.parser)
             self.assertEqual(text.count("Usage: rooms-admin "), usages, typed)
-            self.assertEqual("--json" in text, usages == 4, typed)
+            self.assertEqual("--json" in text, usages == 5, typed)
 
 
 if __name__ == "__main__":

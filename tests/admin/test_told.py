@@ -17,7 +17,7 @@ from rooms_admin.cli.report import Refused, Stop
 from rooms_admin.host import at_socket, changes, locks, mail, waiting
 from rooms_admin.room import (dump, http_client, names, password_rules, passwords, published,
                               server, settings, size)
-from rooms_admin.site import password_files, template
+from rooms_admin.site import guests, password_files, template
 from rooms_admin.verbs import check, full, rooms, tell, user, watched
 
 
@@ -278,6 +278,33 @@ class Moved(Passwords):
                 self.assertEqual(passwords.room_of(file), name)
 
 
+class Guests(unittest.TestCase):
+    """Whom a directory has, and who has a password in a room's file."""
+
+    def look(self, in_file: str, has_guests: bool) -> list[str]:
+        room = settings.Place(name="office", on="", passwords="directory", guests=has_guests)
+        where = settings.Directory()
+        with tempfile.TemporaryDirectory() as root, unittest.mock.patch.object(
+                guests, "_names", return_value={"alice", "bob"}):
+            os.makedirs(root + os.path.dirname(passwords.old_of("office")))
+            with open(root + passwords.old_of("office"), "w", encoding="utf-8") as out:
+                out.write(in_file)
+            return guests.look(root, where, [room])
+
+    def test_who_is_shut_out_is_told(self) -> None:
+        told = self.look("alice:x\neve:x\ntim:x\n", False)
+        self.assertEqual(len(told), 1)
+        self.assertTrue(told[0].startswith("eve, tim of office can't sign in any more"), told)
+        self.assertEqual(self.look("alice:x\n", False), [])
+        self.assertEqual(self.look("", False), [])
+
+    def test_nobody_has_two(self) -> None:
+        for name in ("alice", "Alice", "BOB"):
+            with self.assertRaisesRegex(Refused, f"^two passwords: {name} of office are in"):
+                self.look(f"eve:x\n{name}:x\n", True)
+        self.assertEqual(self.look("eve:x\ntim:x\n", True), [])
+
+
 class Words(unittest.TestCase):
     def typed(self, text: str) -> user.Words:
         """As they are typed."""
@@ -289,20 +316,24 @@ class Words(unittest.TestCase):
                       "add newbie --groups sales --room office",
                       "--room hr add newbie -r office --groups sales"):
             self.assertEqual(self.typed(given),
-                             user.Words("add", "newbie", "office", ["sales"], "", ""), given)
-        self.assertEqual(self.typed("add x --groups a,b").groups, ["a", "b"])
+                             user.Words("add", "newbie", "office", joins=["sales"]), given)
+        self.assertEqual(self.typed("add x --groups a,b").joins, ["a", "b"])
+        for given in ("change x --add a,b --drop c", "change --drop c --add a --add b x"):
+            self.assertEqual(self.typed(given), user.Words(
+                "change", "x", "office", joins=["a", "b"], leaves=["c"]), given)
         self.assertEqual(self.typed("remove -x --to alice --room hr"),
-                         user.Words("remove", "-x", "hr", [], "", "alice"))
+                         user.Words("remove", "-x", "hr", heir="alice"))
         self.assertEqual(self.typed("add x --random --first --groups a"), user.Words(
-            "add", "x", "office", ["a"], "", "", is_first=True, is_random=True))
+            "add", "x", "office", joins=["a"], is_first=True, is_random=True))
         self.assertEqual(self.typed("add --file f -r hr"),
-                         user.Words("add", "", "hr", [], "f", ""))
+                         user.Words("add", "", "hr", file="f"))
 
     def test_what_is_refused(self) -> None:
         for bad in ("", "add", "remove", "add a b", "add --groups", "add a --groups", "list a",
                     "add a --to b", "remove a --groups b", "add a --groups b --file f",
                     "remove --file f", "add a --groups x,", "add jürgen", "add a -x",
-                    "add --file f a", "add --file f --random", "remove a --random"):
+                    "add --file f a", "add --file f --random", "remove a --random", "change a",
+                    "change a --add b --drop b", "change a --add b,", "change --add b"):
             with self.assertRaises(Refused, msg=bad):
                 self.typed(bad)
 

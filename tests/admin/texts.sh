@@ -88,6 +88,28 @@ status=$?
 told 'each list, and who may do what by which entry' 0 "objects 17, rows "
 holds "which is something: $(cat "$work/out")" [ "$(sed 's/.* //' "$work/out")" -gt 100 ]
 
+# All that one user could do is what the program says of that user.
+for user in alice bob carol eve dan "$odd" a.bob nobody; do
+  "$rooms" review look/F / --user "$user" >rows.csv
+  room_verb who --user "$user" --json
+  /usr/bin/python3 - rows.csv "$work/out" "$user" >got 2>&1 <<'END'
+import csv, json, sys
+with open(sys.argv[1], encoding="utf-8", newline="") as source:
+    wanted = [(row["path"], row["kind"], row["rights"], row["remove"] == "yes")
+              for row in csv.DictReader(source)]
+with open(sys.argv[2], encoding="utf-8") as source:
+    rows = json.load(source)
+got = [(row["path"], row["kind"], row["rights"], row["remove"]) for row in rows]
+names = {row["user"] for row in rows}
+print(len(wanted) > 1, wanted == got, names == {"*" if sys.argv[3] == "nobody" else sys.argv[3]},
+      all(row["by"] for row in rows if row["rights"]))
+END
+  holds "all that $user could do: $(cat got)" [ "$(cat got)" = 'True True True True' ]
+done
+room_verb who --user eve /dan
+printf '%s\n' '/dan  eve  rxtc  by A:fd:eve:rxtc' >wanted
+same 'what eve could do there' "$work/out" wanted
+
 # The longest list, as an awk says it: what a terminal would obey is written in signs.
 awk '/^(folder|document|member) / { at = $0 } /^(dacl|sacl)$/ { which = $0; n = 0 }
   /^[ADUL]:/ && ++n > most { most = n; where = which " of " at }

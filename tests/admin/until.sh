@@ -69,6 +69,12 @@ room_verb until
 ended_well 'a date that was put off after the night'
 list_is 'counts' alice /projects/bridge list:a A:fd:eve:rxtc "$(ends "$later" read u.eve alice)" \
   "${top[@]}"
+# Last night's lists decide nothing.
+sets alice /projects/bridge "${over_now[@]}"
+room_verb until --dry-run
+says 'a date of today' 0 'would take back: /projects/bridge: read of eve'
+room_verb until
+says 'is taken back at once' 0 'taken back: /projects/bridge: read of eve'
 sets alice /projects/bridge "${over_now[@]}"
 dumps
 asked 'a move' 204 alice POST /move/projects/bridge '{"to":"/projects/tunnel"}'

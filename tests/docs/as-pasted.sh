@@ -15,6 +15,18 @@ htpasswd -vb passwords dana typed >said 2>&1
 holds 'and has a password' grep -q correct said
 holds 'of cost 10' grep -q '^dana:$2y$10\$' passwords
 cp -L passwords before
+paste_in "$(blocks people.md 'user change dana')"
+prints 'she changes department' '+ staff,dana' '- sales,dana' 'groups 2, members 5'
+same 'and keeps her password' passwords before
+paste_in "$(blocks people.md 'members >groups.csv')"
+holds 'who is there' grep -qx staff,dana groups.csv
+sed -i 's/^staff,dana$/sales,dana/' groups.csv
+paste_in "$(blocks people.md 'members --dry-run')"
+prints 'and a file changes it' '+ sales,dana' '- staff,dana' '+ sales,dana' '- staff,dana' \
+  'groups 2, members 5'
+paste_in "$(blocks people.md 'members --dry-run')"
+holds 'but only once' [ "$status" = 2 ]
+holds 'since it is another one by then' grep -q 'changed meanwhile: ' "$work/err"
 paste_in "$(blocks people.md joining.csv)"
 holds 'many join' [ "$status" = 0 -a "$(grep -cxE '(kim|lee): [a-z2-9]{16}' "$work/out")" = 2 ]
 holds 'and are in their groups' grep -qx 'groups 2, members 8' "$work/out"
@@ -31,6 +43,10 @@ $(blocks people.md '18:00')"
 prints 'somebody from outside' "a password for eve, in $file" 204 204 \
   '{"r":"allowed 3","w":"silent","x":"allowed 3"}'
 answers 'she sees her folder' '[] 200' eve GET /folder/projects/bridge
+# What she has is a level, so that it can end at a date.
+asked alice GET /dacl/projects/bridge | grep '^A:fd:eve:' >got
+grep -m 1 '^| `read` ' "$docs/people.md" | cut -d '`' -f 4 >wanted
+same 'by the entry of a level' got wanted
 answers 'but not the one above' '{"at":"/projects","bits":"r","entry":null,"text":null} 403' \
   eve GET /folder/projects
 answers 'nor any other' '{"at":"/letters","bits":"r","entry":null,"text":null} 403' \
@@ -116,8 +132,8 @@ holds 'is denied' grep -q '^denied bits C no entry$' "$work/out"
 answers 'it is taken without a word' ' 204' alice PUT /dacl/letters "$(cat list.txt)"
 answers 'and holds for its sender' '{"at":"/letters","bits":"r","entry":null,"text":null} 403' \
   alice GET /folder/letters
-paste_in "$(blocks people.md 'office.rooms /letters dacl')"
-prints 'the operator sets another' 'done'
+paste_in "$(blocks people.md 'list set /letters')"
+prints 'the operator sets another' '- A:fdg:staff:rxtc' "+ A:fd:alice:$ALL" 'done'
 answers 'and she gets in' '[{"kind":"document","name":"reply"}] 200' alice GET /folder/letters
 answers 'the list of before' ' 204' alice PUT /dacl/letters 'list:a'
 bin/systemctl stop rooms

@@ -36,7 +36,7 @@ only 'which hashes may be tried is said' 'apr1|[$]2|/A-Za-z0-9\]' room/passwords
 only 'what can be a password is said' 'normalize\("NFC", password|LONGEST = 72' room/password_rules
 only 'the texts of a backup are named' '[/"-](records|review)[.]csv"|"lists[.]txt"' room/texts
 only "members' rows are written and read" 'group,user' room/members
-only 'the members of a room are replaced' '\bmembers[.]write\(' room/known
+only 'the members of a room are changed' '\bmembers[.]change\(' room/known
 only 'what was known of them is kept' 'members[.]csv' room/known
 only 'a server is stopped' 'systemctl\("stop"' room/server
 only 'a server is started' 'systemctl\("start", [a-z.]*unit' room/server

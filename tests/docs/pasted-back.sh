@@ -170,18 +170,21 @@ done
 holds 'and an entry' grep -qxF 'A::OFFICE\nbob:C' "$work/out"
 rm -r "$night"
 
-# Where groups-out fails, whatever it has printed, all members stay, and the room is served.
+# Where groups-out or dump fails, whatever it has printed, all members stay, and the room is served.
 all_members
 rm bin/rooms
 stand_in rooms <<END
-[ "\$1" != groups-out ] || { "$rooms" "\$@" | head -n 3; echo 'fault: store' >&2; exit 3; }
+case \$1 in
+  groups-out | dump) "$rooms" "\$@" | head -n 3; echo 'fault: store' >&2; exit 3 ;;
+esac
 exec "$rooms" "\$@"
 END
 sed -i "s#^PROGRAM=.*#PROGRAM=$PWD/bin/rooms#" root/etc/rooms/office.conf
-for text in 'user add dana' 'user remove bob'; do
+for one in 'user add dana;groups-out' 'user remove bob;dump'; do
+  text=${one%;*}
   bin/systemctl start rooms
   paste_in "$(blocks people.md "$text" | head -n 1)"
-  told "no members in part, by $text" 1 'groups-out failed: ' 'fault: store'
+  told "no members in part, by $text" 1 "${one#*;} failed: " 'fault: store'
   holds 'nothing is imported' [ "$(grep -c '^groups' "$work/out")" = 0 ]
   answers 'the room is served' '{"group":"staff","kind":"document","owner":"user"} 200' \
     alice GET /attr/letters/odd7

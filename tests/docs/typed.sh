@@ -71,7 +71,7 @@ cp /etc/ssl/rooms.pem /etc/letsencrypt/live/rooms.example/fullchain.pem
 cp /etc/ssl/private/rooms.key /etc/letsencrypt/live/rooms.example/privkey.pem
 END
 for name in apache2-bin ldap-utils python3-ldap libapache2-mod-auth-gssapi \
-  libapache2-mod-auth-openidc rsync openssh-client bsd-mailx; do
+  libapache2-mod-auth-openidc rsync openssh-client bsd-mailx sudo; do
   stand_in_package "$name" </dev/null || fail 'what is typed' "no stand-in: $(cat said)"
 done
 # Of Apache and of a directory there is just enough that they are asked: install/directory,
@@ -220,10 +220,10 @@ types 'without internet' docs/operating --download-only docs/operating './*.deb'
 types 'without a package' docs/operating 'nginx apache2-utils' docs/operating '=deploy/install'
 types 'a folder' docs/operating 'rooms.example:80'
 shows 'is made' 201
-types 'groups and lists' docs/operating 'runuser -u rooms bash' docs/operating 'cat >groups.csv' \
-  docs/operating 'office.rooms / dacl' docs/operating 'office.rooms / sacl'
-shows 'are taken' 'groups 2, members 3' 'done'
-does 'the server starts' 'systemctl start rooms@office'
+types 'groups' docs/operating 'cat >groups.csv'
+shows 'are taken' '+ sales,carol' 'groups 2, members 3'
+types 'lists' docs/operating 'list set / ' docs/operating 'list set --sacl'
+shows 'are taken' '+ A:g:staff:rxtc' '+ U:fdF:EVERYONE@:rx' 'done'
 # The mail program is one of these tests; install/package has the warning where there is none.
 printf '#!/bin/sh\ncat >>/srv/mails\n' >"$machine/usr/local/bin/mail"
 chmod 755 "$machine/usr/local/bin/mail"
@@ -231,14 +231,14 @@ statuses='[12]'
 types 'somebody is told' docs/operating 'install -y bsd-mailx' \
   docs/operating 'systemctl start rooms-nightly@office'
 holds 'by a mail' grep -qx 'Can you read this?' "$machine/srv/mails"
-shows 'and all is looked at' 'office: '
+shows 'and all is looked at' 'rooms WARNING - passwords and documents travel unencrypted'
 rm "$machine/usr/local/bin/mail" "$machine/etc/aliases" "$machine/srv/mails"
-types 'a port' docs/operating 'echo PORT=8780'
+types 'a port' docs/operating 'set PORT=8780'
 does 'the room is there' \
   'curl -sf "http://127.0.0.1:8780/can/?" && curl -sf -u alice:typed http://127.0.0.1/me >/dev/null'
 does 'the rule is there' 'nft -f /usr/share/rooms/rooms.nft'
 types 'the ports' docs/operating 'nft list table'
-types 'a socket' docs/operating 'echo PORT= '
+types 'a socket' docs/operating 'set PORT= '
 does 'it is there' 'curl -sf --unix-socket /run/rooms/office/socket "http://localhost/can/?" &&
   curl -sf -u alice:typed http://127.0.0.1/me >/dev/null'
 
@@ -251,7 +251,7 @@ does 'the site with TLS' 'curl -sf --cacert /root/authority/authority.pem \
 types 'a public name' docs/operating 'install -y certbot' docs/operating certonly \
   docs/operating letsencrypt/live
 holds 'its certificate is used' grep -q letsencrypt "$machine/etc/nginx/sites-available/rooms"
-types 'back' docs/operating '/etc/rooms/site && rooms-admin setup'
+types 'back' docs/operating 'CERTIFICATE= KEY='
 does 'without TLS' 'curl -sf -u alice:typed http://127.0.0.1/me >/dev/null'
 
 # Lists.
@@ -293,6 +293,11 @@ types 'somebody joins' docs/people '=rooms-admin user add dana --groups sales'
 file=$machine/var/lib/rooms-passwords/rooms.htpasswd
 holds 'she has a password' grep -q '^dana:$2y$10\$' "$file"
 shows 'she is in her group' 'groups 2, members 4'
+types 'somebody changes department' docs/people 'user change dana'
+shows 'which is shown' '+ staff,dana' '- sales,dana' 'groups 2, members 4'
+does 'and goes back' 'rooms-admin user change dana --add sales --drop staff'
+types 'a spreadsheet' docs/people 'members >groups.csv' docs/people 'members --dry-run'
+shows 'says what is there' 'groups 2, members 4'
 types 'who is there' docs/people '=rooms-admin user list'
 shows 'dana is' 'dana  password  sales'
 does 'bob has a password' 'rooms-admin user add bob'
@@ -318,19 +323,31 @@ holds 'at which her password goes' \
 types 'a backup' docs/upgrading 'start rooms-nightly'
 asks_as 204 alice PUT /dacl/letters list:ap
 asks_as 403 alice GET /folder/letters
-types 'somebody is locked out' docs/people 'office.rooms /letters dacl'
+types 'somebody is locked out' docs/people 'list set /letters'
 asks_as 200 alice GET /folder/letters
 types 'the list of the night' docs/people '=rooms-admin lists /letters'
 shows 'is printed' A:fdg:staff:rwaxtc A:fi:OWNER@:d
 types 'who can read this folder' docs/people '=rooms-admin who /letters'
 shows 'alice alone' 'alice  rwanNxDtThHdcCoy  remove  by A:fd:alice:rwanNxDtThHdcCoy' \
   'every other name  nothing'
+types 'all of one user' docs/people '=rooms-admin who --user bob'
+shows 'by the entries' '/  bob  x' '  by A::AUTHENTICATED@:xt'
 types 'a group' docs/people 'lists --group sales'
 shows 'has a user' 'member sales dana'
 types 'who could change it' docs/people '=rooms-admin who --change /projects'
 shows 'alice' '/projects  alice  Co  remove  by '
 types 'a new password' docs/people '=rooms-admin user add bob' docs/people 'add bob --random' \
   docs/people 'user add bob --first'
+
+# A deputy, who has an account of the machine.
+stand_in visudo </dev/null
+mkdir -p "$machine/etc/sudoers.d"
+does 'an account' 'useradd carol'
+types 'a deputy' docs/operating usermod
+holds 'may do what is written for this room' \
+  grep -q '^  .*/rooms-admin user list --room office, ' "$machine/etc/sudoers.d/rooms-office"
+types 'who asked for what' docs/operating 'journalctl -t rooms-admin'
+types 'a deputy no more' docs/operating 'rm /etc/sudoers.d'
 
 # In and out.
 types 'a share of Windows' docs/in-and-out smbclient
@@ -361,7 +378,12 @@ types 'passwords' docs/directory 'rooms-admin groups --names' \
   docs/directory 'rooms-admin setup --directory /etc'
 shows 'are asked there' 'the directory has 2 users' 'file /etc/rooms/directory.apache'
 answers_as 'nothing answers in its place' 503
-types 'of a further room' docs/directory rooms/invoices.conf docs/directory invoices.apache
+types 'of a further room' docs/directory 'invoices PASSWORDS=' \
+  docs/directory invoices.apache
+statuses=2
+types 'guests' docs/directory GUESTS=yes
+shows 'of whom none has a second password' 'two passwords: alice, bob'
+does 'no guests' 'rooms-admin set GUESTS= && rooms-admin setup'
 types 'groups' docs/directory 'MOST=10' docs/directory '=rooms-admin groups
 systemctl enable --now rooms-directory@office.timer'
 shows 'come in' '+ hr,alice'
@@ -393,6 +415,9 @@ does 'a copy' 'rooms-admin standby --room office
   cp -a /var/backups/rooms/office/standby/. /var/backups/rooms/standby
   systemctl disable --now rooms@office'
 types 'hourly copies' docs/backup HOURS=24
+types 'weeks, months and years' docs/backup 'KEEP='
+holds 'are kept' \
+  grep -qx 'KEEP=14 nights 8 weeks 12 months 5 years' "$machine/etc/rooms/office.conf"
 types 'it takes over' docs/machines 'rooms-admin restore /var/backups/rooms/standby'
 asks_as 200 alice GET /folder/letters
 types 'the old machine no more' docs/machines 'now rooms@office rooms-{'

@@ -74,7 +74,7 @@ while time.monotonic() < ends and (is_away(server()) or subprocess.run(
 print("killed" if run.returncode == -9 else f"status {run.returncode}",
       "away" if is_away(server()) else "goes on")
 END2
-for words in backup standby 'user add dana --groups staff'; do
+for words in backup standby 'user add dana --groups staff --new'; do
   does "$words, killed" "echo secret >typed; python3 kill-while.py $words"
   prints "$words: the server" 'killed goes on'
   gets_in "after $words" bob 200

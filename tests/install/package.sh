@@ -65,10 +65,10 @@ listens() { # NAME LINE ..
   prints "$@"
 }
 listens 'a room at its socket' socket
-does 'a port' "$(block docs/operating.md 'echo PORT=8780')"
+does 'a port' "$(block docs/operating.md 'set PORT=8780')"
 listens 'at its port, and a socket' ':224C 00000000:0000 0A' socket
 replies 'the room with its port'
-does 'no port' "$(block docs/operating.md 'echo PORT= ')"
+does 'no port' "$(block docs/operating.md 'set PORT= ')"
 listens 'at its socket alone' socket
 replies 'the room without a port'
 does 'the start page' 'curl -s http://127.0.0.1/rooms/'

@@ -83,7 +83,7 @@ printf '%s\n' '# DOOR= says nothing any more: each room has its door.' \
   'nothing to change' >wanted
 head -n 5 "$work/out" >got
 same 'stays closed, which is told once' got wanted
-does 'those of the other page' "$(block docs/drive.md 'echo DRIVE=yes')"
+does 'those of the other page' "$(block docs/drive.md 'set DRIVE=yes')"
 until_inside 'let documents be edited in place' '[ "$(curl -s -o /dev/null -w "%{http_code}" \
   -u alice:a -X PROPFIND -H "Depth: 0" http://127.0.0.1/drive/)" = 207 ]'
 does 'nothing is to be closed' \

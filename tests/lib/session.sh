@@ -6,6 +6,7 @@ pasted() { # TEXT-IN-THE-BLOCK: a block of the page, in this folder
     sed -e "s#/etc/rooms/\(office.conf\|passwords.key\)#$PWD/machine&#g" \
       -e "s# /etc/\(nginx\|rooms\|systemd/system\)/# $PWD/#g" \
       -e "s#>/etc/\(rooms\|systemd/system\)/#>$PWD/#g; s#127.0.0.1:8777#127.0.0.1:$apache#" \
+      -e "s#rooms-admin set #$installed/sbin/&--destdir $PWD/machine #" \
       -e "s#rooms-admin setup#$installed/sbin/& --destdir $PWD/machine#" \
       -e '/^apt-get /d; /^systemctl /d; /^nginx -t/d' >block
   [ -s block ] || echo "echo no block with: $1 >&2; exit 1" >block

@@ -6,7 +6,7 @@ from importlib import import_module
 from types import ModuleType
 
 from . import table, words as reading
-from .table import OLD, VERBS
+from .table import KINDS, OLD, VERBS
 
 _ABOUT = "rooms-admin: what an administrator does with rooms beside the program"
 _STATUS = "0 done, 1 something failed or was left out, 2 refused, and nothing was begun"
@@ -55,22 +55,35 @@ def _paragraphs(module: ModuleType) -> list[str]:
 
 def overview() -> str:
     text = f"{_ABOUT}.\n\nUsage: rooms-admin VERB [OPTIONS] [WORDS]\n\n"
-    text += "".join(f"  {verb:12} {about}\n" for verb, about in VERBS.items())
-    return (text + "\nrooms-admin VERB --help says all of a verb, --version the program's version. "
-            "A room is named by\n--room, as office, or by its settings, as ./FILE; without it, it "
-            f"is office.\nStatus: {_STATUS}.\n")
+    for kind, verbs in KINDS.items():
+        text += f"{kind.capitalize()}:\n"
+        text += "".join(f"  {verb:12} {about}\n" for verb, about in verbs.items()) + "\n"
+    return (text + "rooms-admin help VERB says all of a verb, --version the program's version. A "
+            "room is named by\n--room, as office, or by its settings, as ./FILE; without it, it is "
+            f"office.\nStatus: {_STATUS}.\n")
 
 
 def words(given: list[str]) -> list[str]:
     """For a shell that completes: the verbs, or the parts and the options of one."""
     if not given:
-        return [*VERBS, "--help", "--version"]
+        return [*VERBS, "help", "--help", "--version"]
+    if given[0] == "help":
+        return words(given[1:]) if given[1:] else [*VERBS]
     if given[0] not in VERBS:
         return ["--help"]
     parser = reading.of(given[0], module_of(given[0]))
     parser = parser.parts.get("".join(given[1:2]), parser)
     return [*parser.parts, *(reading.name_of(one) for one in parser.shown() if one.option_strings),
             "--help"]
+
+
+def has_value(verb: str, part: str, option: str) -> bool:
+    """Whether a word behind it is its value."""
+    if verb not in VERBS or not option.startswith("-"):
+        return False
+    parser = reading.of(verb, module_of(verb))
+    return any(option in one.option_strings and one.nargs != 0
+               for one in parser.parts.get(part, parser).shown())
 
 
 def _roff(text: str) -> str:
@@ -116,7 +129,7 @@ def page() -> str:
            "rooms\\-admin \\- what an administrator does with rooms beside the program",
            ".SH SYNOPSIS", ".B rooms\\-admin", "\\fIVERB\\fR [\\fIOPTIONS\\fR] [\\fIWORDS\\fR]",
            ".SH DESCRIPTION",
-           "Options may stand anywhere behind the verb, and behind add, remove or list of user;",
+           "Options may stand anywhere, but those of a part, such as user add, behind its word;",
            "behind \\fB\\-\\-\\fR there are none. \\fIROOM\\fR is the name of a room, or its file",
            "of settings, and office if it isn't given. \\fB\\-r\\fR is short for "
            "\\fB\\-\\-room\\fR."]

@@ -6,6 +6,7 @@ from collections.abc import Sequence
 from types import ModuleType
 from typing import Any, NoReturn
 
+from . import alike
 from .report import Refused
 
 
@@ -65,20 +66,25 @@ class Parser(argparse.ArgumentParser):
         if self.parts:
             namespace, more = super().parse_known_args(args, namespace)
             if more:
-                self.error(f"no such option: {more[0]}")
+                self.no_option(more[0])
             return namespace, more
         at = args.index("--") if "--" in args else len(args)
         namespace, words = super().parse_known_args(args[:at], namespace)
         for one in words:
             if one.startswith("--"):
-                self.error(f"no such option: {one}")
+                self.no_option(one)
         if words and words[0][0] == "-" and len(words[0]) > 1 and not self.is_part:
-            self.error(f"no such option: {words[0]}")
+            self.no_option(words[0])
         words += args[at + 1:]
         namespace, more = self.words.parse_known_args(["--", *words] if words else [], namespace)
         if left := [one for one in more if one != "--"]:
             self.error(f"a word too many: '{left[0]}'")
         return namespace, left
+
+    def no_option(self, word: str) -> NoReturn:
+        name = word.partition("=")[0]
+        there = [one for action in self._actions for one in action.option_strings]
+        self.error(f"no such option: {name}{alike.meant(name, there)}")
 
     def shown(self) -> list[argparse.Action]:
         """What help names: words first, then options."""
@@ -133,10 +139,11 @@ def _from_here(word: str) -> str:
     return os.path.join(os.getcwd(), word.removeprefix("./"))
 
 
-def room(parser: Parser, about: str = f"{_ROOM}; office without it") -> None:
+def room(parser: argparse._ActionsContainer, about: str = f"{_ROOM}; office without it") -> None:
     """The room of a verb: there is one way to name it. Before a part's word it counts too."""
+    is_part = isinstance(parser, Parser) and parser.is_part
     parser.add_argument("-r", "--room", metavar="ROOM", help=about, type=_from_here,
-                        default=argparse.SUPPRESS if parser.is_part else "")
+                        default=argparse.SUPPRESS if is_part else "")
 
 
 def rooms(parser: Parser, without: str) -> None:
@@ -169,6 +176,17 @@ def option(parser: argparse._ActionsContainer, name: str, value: str, about: str
         parser.add_argument(name, metavar=tuple(values), nargs=len(values), default=[], help=about)
     else:
         parser.add_argument(name, metavar=value, default=default, help=about, dest=dest)
+
+
+def several(parser: Parser, name: str, value: str, about: str) -> None:
+    """An option that may stand several times."""
+    parser.add_argument(name, metavar=value, action="append", help=about,
+                        default=argparse.SUPPRESS if parser.is_part else [])
+
+
+def dry_run(parser: argparse._ActionsContainer, what: str) -> None:
+    """Of a verb that changes something."""
+    flag(parser, "--dry-run", f"print {what}, and change nothing")
 
 
 def rows(parser: Parser) -> None:

@@ -62,13 +62,15 @@ def try_to_keep(room: Room, known: Known) -> None:
         say(f"{_path(room)} can't be written: the next run looks into the room again")
 
 
-def replace(room: Room, pairs: set[Pair]) -> str:
-    """What was known goes first: a run that is cut off leaves nothing known, and the next one
-    looks. No disk of backups is touched while the server rests."""
+def change(room: Room, before: set[Pair], joins: set[Pair], leaves: set[Pair]) -> set[Pair]:
+    """Who is there then, but for what somebody else changed by hand. What was known goes first: a
+    run that is cut off leaves nothing known, and the next one looks. No disk of backups is touched
+    while the server rests."""
     with contextlib.suppress(FileNotFoundError):
         if published.has_name(room):
             os.unlink(_path(room))
-    return members.write(room, pairs)
+    members.change(room, joins, leaves)
+    return (before - leaves) | joins
 
 
 def kept(room: Room) -> Known | None:

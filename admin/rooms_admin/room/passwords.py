@@ -13,7 +13,7 @@ from collections.abc import Iterator
 from contextlib import AbstractContextManager, contextmanager
 from dataclasses import dataclass
 
-from ..cli.report import Refused, Stop
+from ..cli.report import Refused, Stop, say
 from ..host import commands, locks, safe
 from . import password_rules, published
 
@@ -67,6 +67,8 @@ def ask(user: str) -> str:
     if not password_rules.can_be_given(given):
         raise Refused(f"bad password: it has 1 to {password_rules.LONGEST} bytes, no control "
                       "characters, and no letter in two parts")
+    if why := password_rules.fault_of(user, "", given):
+        say(f"a {why} password, which users couldn't choose: --random makes a better one")
     return given
 
 
@@ -82,7 +84,8 @@ def hashed(password: str) -> bytes:
     return text.encode()
 
 
-def _base(name: str) -> str:
+def base(name: str) -> str:
+    """By which nginx and Apache know whose passwords are asked for."""
     return "rooms" if name == "office" else f"rooms-{name}"
 
 
@@ -93,12 +96,12 @@ def room_of(file: str) -> str:
 
 def kept_of(name: str) -> str:
     """Of a room whose users change their own."""
-    return f"{KEPT}/{_base(name)}.htpasswd"
+    return f"{KEPT}/{base(name)}.htpasswd"
 
 
 def old_of(name: str) -> str:
     """Of a room where root alone does."""
-    return f"{OLD}/{_base(name)}.htpasswd"
+    return f"{OLD}/{base(name)}.htpasswd"
 
 
 def file_of(root: str, name: str) -> str:

@@ -84,9 +84,10 @@ def private_copy(room: settings.Room, backup: str) -> Iterator[str]:
         yield os.path.join(made, "room")
 
 
-def set_list(room: settings.Room, copied: str, path: bytes, lines: bytes) -> str:
+def set_list(room: settings.Room, copied: str, path: bytes, lines: bytes, which: str = "dacl"
+             ) -> str:
     """What hindered that; nothing if nothing did."""
-    status, out, said = program.on_copy(room, copied, ["reset", path, "dacl"], stdin=lines)
+    status, out, said = program.on_copy(room, copied, ["reset", path, which], stdin=lines)
     return "" if status == 0 else said or out.decode(errors="replace").strip() or f"status {status}"
 
 

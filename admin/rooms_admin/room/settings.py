@@ -8,6 +8,7 @@ from dataclasses import dataclass, field, fields
 from typing import Any
 
 from ..host import locks
+from . import keep as keeping
 from .names import is_host, is_user
 from ..cli.report import Refused
 
@@ -40,14 +41,18 @@ def lines(path: str) -> list[tuple[int, str]]:
         text = _text(path)
     except OSError as fault:
         raise Refused(f"no settings: {path} can't be read: {fault.strerror}") from fault
+    return _of_text(text)
+
+
+def _of_text(text: str) -> list[tuple[int, str]]:
     found = enumerate(text.split("\n"), 1)
     return [(number, line) for number, line in found if line and not line.startswith("#")]
 
 
-def _look_at_units(path: str) -> None:
+def _look_at_units(path: str, rows: list[tuple[int, str]]) -> None:
     """systemd reads a room's file for its units by rules of its own: a quote goes on to the next
     one, and a backslash at the end joins the next line."""
-    for number, line in lines(path):
+    for number, line in rows:
         value = line.partition("=")[2]
         quote = value[:1]
         if line.endswith("\\") or (quote in ("'", '"') and value.find(quote, 1) < 0):
@@ -55,11 +60,12 @@ def _look_at_units(path: str) -> None:
                           "systemd: no backslash at the end, and no quote at the beginning alone")
 
 
-def values(path: str, known: dict[str, str], gone: Iterable[str] = ()) -> dict[str, str]:
+def values(path: str, known: dict[str, str], gone: Iterable[str] = (),
+           rows: list[tuple[int, str]] | None = None) -> dict[str, str]:
     """The last value of each name; `known` has the names, and the values of those that lack. Those
-    of `gone` say nothing any more."""
+    of `gone` say nothing any more. `rows` are what the file is to have."""
     found = dict(known)
-    for number, line in lines(path):
+    for number, line in lines(path) if rows is None else rows:
         name, equals, value = line.partition("=")
         if equals and name in gone:
             continue
@@ -119,7 +125,8 @@ def of_kind(kind: type) -> dict[str, Setting]:
 
 def known(kind: type) -> dict[str, str]:
     """The names of a file's lines, and the values of those that lack."""
-    return {one.name: one.default for one in of_kind(kind).values()}
+    return ELSEWHERE if kind is Place else {one.name: one.default
+                                            for one in of_kind(kind).values()}
 
 
 def given(kind: type, path: str, got: dict[str, str]) -> dict[str, Any]:
@@ -152,6 +159,7 @@ class Reached:
     title: str = setting("TITLE")
     passwords: str = setting("PASSWORDS", r"(file|directory|session)?",
                              "file, directory or session", reads=lambda text: text or "file")
+    guests: bool = yes("GUESTS")
     host: str = setting("HOST", lambda text: not text or is_host(text), "a host's name")
     behind: bool = yes("BEHIND")
     drive: bool = yes("DRIVE")
@@ -165,6 +173,11 @@ class Reached:
     def shows_nights(self) -> bool:
         """Whether its users see earlier nights."""
         return self.earlier != "no"
+
+    @property
+    def lets_guests(self) -> bool:
+        """Whether its file is asked for whom the directory doesn't let in."""
+        return self.passwords == "directory" and self.guests
 
 
 def name_of(path: str) -> str:
@@ -207,7 +220,7 @@ class Room(Kept):
     """A room of this machine. `owner` and `group` are whose its folder is."""
     owner: int
     group: int
-    keep: int = setting("KEEP", r"0|[1-9][0-9]{0,5}", "a number", "30", int)
+    keep: keeping.Keep = setting("KEEP", keeping.FORM, keeping.WHAT, "30", keeping.read)
     memory: int = setting("MEMORY", r"([1-9][0-9]{2,6})?", "a number of megabytes, 100 or more",
                           reads=lambda text: int(text or 0))
     limit: str = setting("LIMIT", r"([1-9][0-9]{0,6}|none)?",
@@ -301,13 +314,11 @@ def file_of(word: str) -> str:
 
 def room(word: str = "") -> Room:
     path = file_of(word)
-    _look_at_units(path)
+    _look_at_units(path, lines(path))
     got = _of_room(path)
     got["UNIT"] = got["UNIT"] or f"rooms@{name_of(path)}"
     read = given(Room, path, got)
-    if got["REVIEW"] or got["REVIEWER"]:
-        need(got["REVIEW"], path, "REVIEW", "a folder of the room", "")
-        need(got["REVIEWER"], path, "REVIEWER", "a user's name", "")
+    _need_pairs(path, got)
     if not (os.path.isfile(got["PROGRAM"]) and os.access(got["PROGRAM"], os.X_OK)):
         raise Refused(f"no program: {got['PROGRAM']}, of {path}, isn't there or can't be run")
     folder = os.path.dirname(got["FILE"])
@@ -320,13 +331,36 @@ def room(word: str = "") -> Room:
     return Room(conf=path, owner=seen.st_uid, group=seen.st_gid, **read)
 
 
+def _need_pairs(path: str, got: dict[str, str]) -> None:
+    for one, other in (("REVIEW", "REVIEWER"), ("CERTIFICATE", "KEY")):
+        if bool(got.get(one)) != bool(got.get(other)):
+            raise Refused(f"bad settings: {one} and {other} in {path} need one another")
+
+
+def kind_of(path: str) -> type:
+    """Which record a file has."""
+    return Room if path.endswith(".conf") else Place if path.endswith(".on") else Front
+
+
+def look_at(path: str, text: str) -> None:
+    """Refuses a text that a verb would refuse, once it was the file's."""
+    kind, rows = kind_of(path), _of_text(text)
+    got = values(path, known(kind), GONE if kind is Room else (), rows)
+    if kind is not Front:
+        _look_at_units(path, rows)
+    if "UNIT" in got:
+        got["UNIT"] = got["UNIT"] or f"rooms@{name_of(path)}"
+    given(kind, path, got)
+    _need_pairs(path, got)
+
+
 def kept(path: str) -> Kept:
     return Kept(conf=path, **given(Kept, path, _of_room(path)))
 
 
 def place(path: str) -> Place:
     is_elsewhere = path.endswith(".on")
-    _look_at_units(path)
+    _look_at_units(path, lines(path))
     got = values(path, ELSEWHERE) if is_elsewhere else _of_room(path)
     need(got["PORT"] or not is_elsewhere, path, "PORT", "a port", "")
     return Place(name=name_of(path), **given(Place, path, got))
@@ -386,14 +420,14 @@ class Front:
     hosts: list[str] = setting("HOSTS", _are_hosts, "names of hosts", "rooms.example", str.split)
     certificate: str = setting("CERTIFICATE", _SAFE, _SAFE_PATH)
     key: str = setting("KEY", _SAFE, _SAFE_PATH)
+    unencrypted: bool = yes("UNENCRYPTED")
     connections: str = setting("CONNECTIONS", r"([1-9][0-9]{1,5}|none)?",
                                "a number of connections, 10 or more, or none")
 
 
 def front(path: str) -> Front:
     found = Front(**given(Front, path, values(path, known(Front))))
-    if bool(found.certificate) != bool(found.key):
-        raise Refused(f"bad settings: CERTIFICATE and KEY in {path} need one another")
+    _need_pairs(path, {"CERTIFICATE": found.certificate, "KEY": found.key})
     return found
 
 

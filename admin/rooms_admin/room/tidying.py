@@ -6,6 +6,7 @@ import shutil
 from ..host import safe
 from . import backups, texts
 from .backups import Backup
+from .keep import Keep
 from .settings import Room
 
 _TEXTS = (texts.RECORDS, texts.LISTS, texts.REVIEW, "machine.tar", "verdict", backups.RUN)
@@ -32,12 +33,18 @@ def remove(room: Room, place: str, why: str) -> str:
         return f"{place} can't be removed: it {why}"
 
 
-def beyond(before: list[Backup], keep: int, date: str) -> list[Backup]:
-    """The oldest ones, where tonight's is one of those that are kept. One with a later name than
-    another that stays isn't removed: a clock was set back, or somebody has changed its number."""
-    count = max(0, len(before) + 1 - keep)
-    first = min([one.name for one in before[count:]] + [date])
-    return [one for one in before[:count] if one.name < first]
+def beyond(before: list[Backup], keep: Keep, date: str) -> list[Backup]:
+    """Those that don't stay, where tonight's does. One with a later name than a newer one that
+    stays isn't removed: a clock was set back, or somebody has changed its number."""
+    stays = keep.stay([*(one.name for one in before), date])
+    first = date
+    gone: list[Backup] = []
+    for at in reversed(range(len(before))):
+        if at in stays:
+            first = min(first, before[at].name)
+        elif before[at].name < first:
+            gone.insert(0, before[at])
+    return gone
 
 
 def left(room: Room, at: str) -> list[str]:

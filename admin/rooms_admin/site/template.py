@@ -7,7 +7,7 @@ import re
 from dataclasses import dataclass
 
 from ..host import commands, safe
-from ..room import names, settings, waits
+from ..room import names, passwords, settings, waits
 from ..cli.report import Refused, say
 from ..room.settings import Front, Place
 
@@ -125,15 +125,15 @@ def render(text: str, site: Site) -> str:
     """The text of the file, with its checksum."""
     front = site.front
     shown = site.shown
-    files = {how: "|".join("rooms" if one.name == "office" else f"rooms-{one.name}"
-                           for one in shown if _changes(one) == how)
-             for how in ("directory", "session", "own")}
+    files = {how: "|".join(passwords.base(one.name) for one in shown if _asks(one) == how)
+             for how in ("directory", "guests", "session", "own")}
     while "\n@part " in text:
         text = _PART.sub(lambda found: template(found[1]), text)
     text = _HIDE.sub(lambda found: _hidden(found[1]), text)
     text = _sections(text, {
         "TLS": bool(front.certificate), "PLAIN": not front.certificate,
-        "DIRECTORY": bool(files["directory"]), "SESSION": bool(files["session"]),
+        "DIRECTORY": bool(files["directory"]), "GUESTS": bool(files["guests"]),
+        "SESSION": bool(files["session"]),
         "PASSWORD_PAGE": not files["session"], "OWN": bool(files["own"]),
         "MACHINES": any(one.on for one in shown), "BEHIND": bool(site.behind),
         "HTTP2_ON": bool(front.certificate) and site.http2 == "on"})
@@ -146,7 +146,8 @@ def render(text: str, site: Site) -> str:
             ("HOSTS", " ".join(front.hosts + [one.host for one in shown if one.host])),
             ("CERTIFICATE", front.certificate), ("KEY", front.key), ("PAGE", site.page),
             ("ERRORS", os.path.join(os.path.dirname(site.page), "errors")),
-            ("DIRECTORY_FILES", files["directory"]), ("SESSION_FILES", files["session"]),
+            ("DIRECTORY_FILES", files["directory"]), ("GUEST_FILES", files["guests"]),
+            ("SESSION_FILES", files["session"]),
             ("OWN_FILES", files["own"]), ("HTTP2", " http2" if site.http2 == "listen" else ""),
             ("ANSWER", f"{waits.ANSWER:.0f}"), ("NIGHT", f"{waits.NIGHT:.0f}"),
             ("NIGHT_THERE", f"{waits.NIGHT + 10:.0f}")):
@@ -164,6 +165,17 @@ def _hidden(protocol: str) -> str:
 def _changes(room: Place) -> str:
     """How passwords of a room change: 'own' by its users, 'file' by root alone, or elsewhere."""
     return "own" if room.own else room.passwords
+
+
+def _asks(room: Place) -> str:
+    """Who is asked whether a password is right; 'guests' is the directory, and then the file."""
+    return "guests" if room.lets_guests else _changes(room)
+
+
+def guests_row(room: Place) -> str:
+    """The file of a room's guests, where it is once the site is there; nothing if it has none."""
+    file = (passwords.kept_of if room.keeps else passwords.old_of)(room.name)
+    return f"{passwords.base(room.name)} {file}" if _asks(room) == "guests" else ""
 
 
 def _sections(text: str, wanted: dict[str, bool]) -> str:
@@ -206,6 +218,7 @@ def _maps(site: Site) -> dict[str, list[str]]:
         "SESSIONS": [f"{one.name} 1" for one in site.shown if one.passwords == "session"],
         "CHANGES": [f'"{one.name} {f"/{one.name}" if one.on else ""}/password" {_changes(one)}'
                     for one in site.shown],
+        "GUESTS": [row for one in site.shown if (row := guests_row(one))],
         "BEHIND": [f'"~^/{one.name}(/|$)" {one.name}' for one in site.behind],
         "BEHIND_FLAGS": [f"{one.name} {one.flag}" for one in site.behind],
         "BEHIND_DRIVES": [f"{one.name} yes" for one in site.behind if one.drive],

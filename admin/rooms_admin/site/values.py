@@ -14,7 +14,9 @@ def set_values(made: Changes, path: str, wanted: dict[str, str]) -> None:
     if wanted:
         text = settings.changed(template.read(made.root + path), wanted)
         said = ", ".join(f"{name}={value}" for name, value in wanted.items())
-        made.file(path, text.encode(errors="surrogateescape"), what=f", with {said}")
+        place = made.root + path
+        mode = stat.S_IMODE(os.stat(place).st_mode) if os.path.exists(place) else 0o644
+        made.file(path, text.encode(errors="surrogateescape"), mode, what=f", with {said}")
 
 
 def tell_gone(made: Changes) -> None:
@@ -48,6 +50,10 @@ HOSTS=rooms.example
 # 'rooms-admin setup --tls CERTIFICATE KEY' looks at both, and writes them here.
 CERTIFICATE=
 KEY=
+
+# With UNENCRYPTED=yes they do so on purpose, as behind a proxy that has TLS: rooms-admin check says
+# nothing of it.
+UNENCRYPTED=
 
 # How many connections to nginx one address, or network of IPv6, may have at once. If this is empty,
 # it is half of what nginx holds; 'none' sets no limit, as behind a proxy through which all come.

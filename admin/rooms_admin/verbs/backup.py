@@ -202,10 +202,10 @@ class Night:
         jumps = backups.jump(before)
         for text in [*before.wrong, *([jumps] if jumps else [])]:
             self.failed(f"no older backup is removed: {text}")
-        if self.unread and self.room.keep != 0:
+        if self.unread and self.room.keep.nights:
             self.failed("a record in the copy cannot be read, so no older backup is removed: one "
                         "may have it whole")
-        if self.room.keep == 0 or before.wrong or jumps or self.unread:
+        if not self.room.keep.nights or before.wrong or jumps or self.unread:
             return
         for one in tidying.beyond(before.backups, self.room.keep, self.date):
             self.failed(tidying.remove(self.room, one.place, "has more in it than a backup"))

@@ -55,7 +55,7 @@ def run(given: argparse.Namespace) -> int:
              for conf in _rooms(given.rooms)]
     directory = watched.within(watched.PATIENCE, watched.see_directory, "what asks the directory")
     machine = [*watched.see_units(), *directory, *watched.see_connections(),
-               *watched.see_certificates()]
+               *watched.see_tls(), *watched.see_certificates()]
     if given.json:
         report.put_rows([{"room": name, "level": _WORDS[level].lower(), "text": text}
                          for name, found in [*rooms, ("", machine)]

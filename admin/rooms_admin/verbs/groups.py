@@ -12,17 +12,19 @@ from contextlib import ExitStack
 
 from ..cli import report, words
 from ..host import locks, mail
-from ..room import backups, dump, entries, known, members, names, server, settings, texts
+from ..room import backups, dump, entries, joining, known, members, names, server, settings, texts
 from . import people
+from ..site import guests
 from ..site.directory import GROUPS, Directory, NoSuchEntry
 from ..cli.report import Refused, Stop, say
+from ..room.dump import Pair
+from ..room.joining import Change
 from ..room.settings import Room
 
 # The program takes no more from a file.
 LIMIT = 20000
 # A directory that always names another one would never end.
 GROUPS_IN_ONE = 10000
-Pair = tuple[str, str]
 
 
 class NoGroup(Refused):
@@ -127,7 +129,7 @@ class Run:
     def ask(self, groups: dict[str, str]) -> set[Pair]:
         """Takes those out of `groups` that the directory hasn't: one may have been renamed there,
         which keeps nobody from leaving another one."""
-        asked = Asked(Directory(_directory(self.room)))
+        asked = Asked(Directory(guests.settings_of(self.room.conf)))
         wanted: set[Pair] = set()
         for name, what in list(groups.items()):
             pairs = set()
@@ -184,7 +186,7 @@ class Run:
         if now is not None:
             coming, going, others = compare(now, wanted, groups)
             if self.dry:
-                show(coming, going)
+                show(Change(now, coming, going))
                 return
             if not coming and not going:
                 return
@@ -199,14 +201,13 @@ class Run:
             known.try_to_keep(self.room, known.here(self.room, now))
             coming, going, others = compare(now, wanted, groups)
             self.guard(going, len(others | wanted), most)
-            show(coming, going)
-            if coming or going:
-                self.replace(others | wanted)
-
-    def replace(self, pairs: set[Pair]) -> None:
-        say(known.replace(self.room, pairs))
-        for failure in people.write(self.room, known.here(self.room, pairs)):
-            say(failure)
+            change = Change(now, coming, going)
+            show(change)
+            if not change.is_none:
+                then = known.change(self.room, now, coming, going)
+                say(joining.counted(then))
+                for failure in people.write(self.room, known.here(self.room, then)):
+                    say(failure)
 
     def names(self) -> None:
         """Users of the room, as the last backup has them in lists and groups, whom the directory
@@ -214,7 +215,7 @@ class Run:
         if not self.last():
             raise Refused("no backup yet, where names are looked for: systemctl start "
                           f"{self.room.nightly}")
-        asked = Asked(Directory(_directory(self.room)))
+        asked = Asked(Directory(guests.settings_of(self.room.conf)))
         theirs = {one.lower(): one for one in asked.users.values()}
         same = set(asked.users.values())
         ours = set()
@@ -231,10 +232,6 @@ class Run:
                 print(f"{one}: the directory has {report.line(theirs[one.lower()])}")
 
 
-def _directory(room: Room) -> settings.Directory:
-    return settings.directory(os.path.join(os.path.dirname(room.conf), "directory"))
-
-
 def compare(now: set[Pair], wanted: set[Pair], groups: dict[str, str]
             ) -> tuple[set[Pair], set[Pair], set[Pair]]:
     """What comes, what goes, and what stays: the members of groups that the directory hasn't."""
@@ -242,10 +239,9 @@ def compare(now: set[Pair], wanted: set[Pair], groups: dict[str, str]
     return wanted - ours, ours - wanted, now - ours
 
 
-def show(coming: set[Pair], going: set[Pair]) -> None:
-    for sign, pairs in (("+", coming), ("-", going)):
-        for group, user in sorted(pairs):
-            print(f"{sign} {group},{user}")
+def show(change: Change) -> None:
+    for line in change.lines():
+        print(line)
 
 
 def _work(task: Run, given: argparse.Namespace) -> int:

@@ -8,6 +8,7 @@ import time
 from ..cli.report import Stop, say
 from ..host import safe
 from ..room import backups, server, tidying
+from ..room.keep import Keep
 from ..room.settings import Room
 
 HOUR = 3600
@@ -95,7 +96,7 @@ def _remove_old(room: Room, before: backups.Found, date: str) -> list[str]:
     if wrong:
         return [f"no older hourly copy is removed: {one}" for one in wrong]
     said = [tidying.remove(room, one.place, "has more in it than a copy")
-            for one in tidying.beyond(before.backups, room.hours, date)]
+            for one in tidying.beyond(before.backups, Keep(room.hours), date)]
     return [one for one in said if one]
 
 

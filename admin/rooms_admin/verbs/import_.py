@@ -2,10 +2,13 @@
 may send. PATH is made if it is missing, with the folders above it. No link is followed. A document
 that is there is never replaced without --replace, so the same command goes on where one was cut
 off. What isn't sent is printed, with the room's reply: a link, a device, a file that can't be read
-or has more than 1048576 bytes, and what the room refuses. On the room's own machine it ends where
-the room is full, unless --force lets it go on beyond LIMIT of the settings."""
+or has more than 1048576 bytes, and what the room refuses. How much of that there is, and that
+dates, owners and rights stay behind, it says before it begins. On the room's own machine it ends
+where the room is full, unless --force lets it go on beyond LIMIT of the settings."""
 import argparse
 import os
+from collections import Counter
+from dataclasses import dataclass, field
 
 from ..cli import report, words
 from ..host import safe
@@ -154,18 +157,41 @@ def children(at: int) -> list[bytes]:
     return sorted(os.fsencode(name) for name in os.listdir(at))
 
 
-def count(at: int) -> int:
-    """How many names are below a folder, as far as it can be read."""
-    total = 0
-    for name in children(at):
-        total += 1
-        try:
-            if safe.kind_below(at, name) == "folder":
-                with safe.opened(safe.folder_below(at, name)) as inner:
-                    total += count(inner)
-        except OSError:
-            pass
-    return total
+@dataclass
+class Tally:
+    """What is below a folder, by names alone: how many, and of which none is sent."""
+    total: int = 0
+    out: Counter[str] = field(default_factory=Counter)
+
+    def look(self, at: int) -> None:
+        for name in children(at):
+            self.total += 1
+            if names.why_not(name):
+                self.out["with names that no room can have"] += 1
+                continue
+            try:
+                self._one(at, name)
+            except OSError:
+                self.out["that can't be read"] += 1
+
+    def _one(self, at: int, name: bytes) -> None:
+        kind = safe.kind_below(at, name)
+        if kind == "folder":
+            with safe.opened(safe.folder_below(at, name)) as inner:
+                self.look(inner)
+        elif kind == "link":
+            self.out["links"] += 1
+        elif kind == "other":
+            self.out["neither files nor folders"] += 1
+        elif os.stat(name, dir_fd=at, follow_symlinks=False).st_size > MOST:
+            self.out[f"of more than {MOST} bytes"] += 1
+        elif not os.access(name, os.R_OK, dir_fd=at, effective_ids=True):
+            self.out["that can't be read"] += 1
+
+    def text(self) -> str:
+        left = ", ".join(f"{number} {what}" for what, number in sorted(self.out.items()))
+        return (f"of {self.total} files and folders no date, owner or right is taken over; "
+                f"left out: {left or 'none'}")
 
 
 def arguments(parser: words.Parser) -> None:
@@ -173,6 +199,7 @@ def arguments(parser: words.Parser) -> None:
     words.word(parser, "path", "PATH", "the folder of the room that gets all in it")
     words.flag(parser, "--replace", "replace documents that are there and differ")
     words.flag(parser, "--force", "fill a room of this machine beyond its limit")
+    words.dry_run(parser, "what wouldn't be taken over")
     caller_arguments(parser)
 
 
@@ -187,12 +214,16 @@ def run(given: argparse.Namespace) -> int:
     if not names.is_path(to):
         raise Refused("bad arguments: a path in the room begins with a slash and doesn't end with "
                       f"one, unlike '{given.path}'")
+    tally = Tally()
+    tally.look(at)
+    say(tally.text())
+    if given.dry_run:
+        return 1 if tally.out else 0
     asked = client(given.room, caller_of(given), "the same command goes on where this one stopped",
                    True)
     space = None if given.force or not is_here(given.room) else Space(given.room)
     task = Import(asked, given.replace, space)
-    if os.isatty(2):
-        task.total = count(at)
+    task.total = tally.total
     if space:
         space.need(0)
     ended = False

@@ -10,7 +10,7 @@ from ..cli import signs, words
 from ..host import locks, safe
 from ..room import dump, known, names, passwords, published, settings
 from ..room.known import Known
-from ..cli.report import say
+from ..cli.report import Interrupted, Refused, Stop, say
 from ..room.settings import Room
 
 FILE = "people.json"
@@ -53,6 +53,31 @@ def nightly(room: Room, lists: str) -> list[str]:
     with safe.own_file(lists) as source:
         return write(room, known.here(room, dump.members(source),
                                       os.fstat(source.fileno()).st_mtime))
+
+
+def show_known(room: Room) -> None:
+    """With who was last known to be in groups. A run that is at work writes them itself, or the
+    next one does."""
+    try:
+        with locks.lock(room.unit, 10):
+            show(room, None)
+    except locks.Busy as busy:
+        say(f"the names that the web interface offers are those of before: {busy}")
+
+
+def show(room: Room, now: set[dump.Pair] | None) -> None:
+    """The names that the web interface offers, with these members of groups, or with those that are
+    known. What has been done stays done if that fails; before the first night there are none."""
+    try:
+        what = known.here(room, now) if now is not None else known.newest(room)
+        for failure in write(room, what):
+            say(failure)
+    except Refused:
+        pass
+    except Interrupted:
+        raise
+    except Stop as stop:
+        say(f"the names that the web interface offers are those of before: {stop}")
 
 
 def with_password(path: str) -> set[str]:

@@ -30,7 +30,8 @@ def refuse_while_served(room: Room) -> None:
     """A unit that systemd keeps restarting is 'activating'."""
     state = server.state(room)
     if state not in ("inactive", "failed"):
-        raise Refused(f"the server runs ({room.unit} is '{state}'): systemctl stop {room.unit}")
+        raise Refused(f"the server runs ({room.unit} is '{state}'): --start stops it for a moment, "
+                      f"or systemctl stop {room.unit}")
     for process in (int(one) for one in os.listdir("/proc") if one.isdigit()):
         if process != os.getpid() and server.has_open(process, room.file):
             raise Refused(f"process {process} has {room.file} open: stop it")
@@ -46,6 +47,13 @@ def is_there(at: int | None, name: str) -> bool:
 def move(source: int | None, target: int | None, name: str) -> None:
     if is_there(source, name):
         os.rename(name, name, src_dir_fd=source, dst_dir_fd=target)
+
+
+def verified(room: Room, copied: str, backup: str) -> None:
+    status, out, text = program.on_copy(room, copied, ["verify"])
+    if status != 0:
+        raise Stop(f"no backup: verify of {backup}/{room.base} gives status {status}: "
+                   f"{text or out.decode(errors='replace').strip()}")
 
 
 class Restore:
@@ -148,10 +156,7 @@ class Restore:
         """What was verified is a private copy, where the room's user changes nothing, and that one
         gets to the room's folder. Verifying writes to it; the backup isn't changed."""
         with private_server.private_copy(self.room, backup) as copied:
-            status, out, text = program.on_copy(self.room, copied, ["verify"])
-            if status != 0:
-                raise Stop(f"no backup: verify of {backup}/{self.base} gives status {status}: "
-                           f"{text or out.decode(errors='replace').strip()}")
+            verified(self.room, copied, backup)
             self.make_stage()
             assert self.new is not None
             try:
@@ -188,7 +193,8 @@ class Restore:
         move(self.new, self.at, self.base)
         os.fsync(self.at)
 
-    def restore(self, backup: str, named: str) -> None:
+    def restore(self, backup: str, named: str, starts: bool) -> None:
+        """`starts` is whether somebody else starts the server afterwards."""
         self.own = True
         self.make_copy(backup)
         self.stop_server()
@@ -207,7 +213,7 @@ class Restore:
         if self.kept:
             print(f"the old room is in {self.kept}; to put it back: rooms-admin restore {named}"
                   f"{self.kept}")
-        if not self.start:
+        if not self.start and not starts:
             print(f"to start the server: systemctl start {self.room.unit}")
 
     def stop_server(self) -> None:
@@ -239,7 +245,7 @@ class Restore:
             raise Stop(why)
 
 
-def restore_room(conf: str, backup: str, start: bool) -> None:
+def restore_room(conf: str, backup: str, start: bool, starts: bool = False) -> None:
     """Without a backup it only cleans up after a run that was cut off."""
     room = settings.room(conf)
     with locks.lock(room.unit, 0):
@@ -253,7 +259,7 @@ def restore_room(conf: str, backup: str, start: bool) -> None:
                 refuse_while_served(room)
                 task.settle("an earlier restore")
             if found:
-                task.restore(found, f"--room {conf} " if conf else "")
+                task.restore(found, f"--room {conf} " if conf else "", starts)
         except (Stop, OSError) as stop:
             report.ignore_signals()
             if task.own:
@@ -266,6 +272,18 @@ def restore_room(conf: str, backup: str, start: bool) -> None:
             task.start_server()
 
 
+def would_restore(conf: str, backup: str, start: bool) -> None:
+    """The backup is verified as it would be; nothing is stopped, and nothing changes."""
+    room = settings.room(conf)
+    with locks.lock(room.unit, 0):
+        found = backups.find(room, backup)
+        with private_server.private_copy(room, found) as copied:
+            verified(room, copied, found)
+    print(f"would: restored {room.file} from {found}")
+    if start:
+        print(f"would: {room.unit} is stopped for a moment, and started")
+
+
 def _start_all(tar: machine_tar.Tar) -> int:
     """What is left on a new machine. What is done already is done again, or changes nothing."""
     failed = 0
@@ -275,7 +293,7 @@ def _start_all(tar: machine_tar.Tar) -> int:
         try:
             room = settings.room(conf)
             if not os.path.lexists(room.file):
-                restore_room(conf, "latest", False)
+                restore_room(conf, "latest", False, True)
         except (Stop, OSError) as fault:
             say(str(fault))
             failed += 1
@@ -336,7 +354,7 @@ def bring_back_machine(given: argparse.Namespace) -> int:
 
 
 def arguments(parser: words.Parser) -> None:
-    parser.forms = ["[--room ROOM] [--start] BACKUP", "[--room ROOM] [--start] --undo",
+    parser.forms = ["[--room ROOM] [--start] [--dry-run] BACKUP", "[--room ROOM] [--start] --undo",
                     "[--room ROOM] --machine [--dry-run] [--start] BACKUP"]
     words.word(parser, "backup", "[BACKUP]", "a folder, the name of a backup, or latest")
     words.room(parser)
@@ -345,7 +363,7 @@ def arguments(parser: words.Parser) -> None:
     words.flag(what, "--machine", "bring back what the machine had beside its rooms")
     words.flag(parser, "--start", "stop the server if it runs, and start it; with --machine, "
                "restore rooms that aren't there, and enable what was enabled")
-    words.flag(parser, "--dry-run", "with --machine, print what would be done")
+    words.dry_run(parser, "what would be done, once the backup was verified")
 
 
 def run(given: argparse.Namespace) -> int:
@@ -353,8 +371,8 @@ def run(given: argparse.Namespace) -> int:
     if bool(given.backup) == given.undo:
         raise Refused("bad arguments: --undo takes no BACKUP" if given.undo else
                       "bad arguments: BACKUP is missing, or --undo")
-    if given.dry_run and not given.machine:
-        raise Refused("bad arguments: --dry-run is for --machine")
+    if given.dry_run and given.undo:
+        raise Refused("bad arguments: --undo has no --dry-run")
     if given.machine:
         return bring_back_machine(given)
     # A path may be named by where this was called.
@@ -363,5 +381,8 @@ def run(given: argparse.Namespace) -> int:
         backup = os.path.abspath(backup)
     conf = given.room and settings.file_of(given.room)
     os.chdir("/")
-    restore_room(conf, backup, given.start)
+    if given.dry_run:
+        would_restore(conf, backup, given.start)
+    else:
+        restore_room(conf, backup, given.start)
     return 0

@@ -12,7 +12,7 @@ from pwd import getpwnam
 from ..cli import words
 from ..host import changes, commands, locks
 from ..room import passwords, program as runs, settings
-from ..site import apache, apply, directory, password_files, template, values
+from ..site import apache, apply, directory, guests, password_files, template, values
 from ..host.changes import Changes
 from ..cli.report import Refused, Stop
 
@@ -39,6 +39,7 @@ def run(given: argparse.Namespace) -> int:
     with locks.machine(made.root, made.dry):
         pair = _look_at_pair(made, *given.tls) if given.tls else None
         where = _look_at_directory(made, given.directory) if given.directory else None
+        _look_at_guests(made, given.directory)
         return _set_up(made, pair, given.directory, where)
 
 
@@ -212,7 +213,19 @@ def _look_at_directory(made: Changes, chosen: str) -> settings.Directory | None:
         raise Refused(f"no users: the directory has none for USERS and NAME in {chosen}")
     print(f"the directory has {users} users")
     _try_apache(where, chosen)
+    rooms = [one for one in template.gather(made.root).shown
+             if one.name == "office" or one.passwords == "directory"]
+    for line in guests.look(made.root, where, rooms):
+        print(line)
     return where
+
+
+def _look_at_guests(made: Changes, chosen: str) -> None:
+    """Before nginx asks a file for them that it didn't ask."""
+    if chosen or made.root or not os.path.isdir(made.root + os.path.dirname(guests.FILE)):
+        return
+    if rooms := guests.new(made.root):
+        guests.look(made.root, settings.directory(guests.FILE), rooms)
 
 
 def _try_apache(where: settings.Directory, chosen: str) -> None:

@@ -25,7 +25,7 @@ def copy(room: Room, own: str) -> copying.Copy | None:
     keep, to verify and to send it may take long."""
     try:
         with locks.lock(room.unit, 10):
-            if server.state(room) == "inactive":
+            if server.settled(room) == "inactive":
                 say(f"{room.unit} isn't running: {LAST}")
                 return None
             return copying.copy(room, own)

@@ -11,7 +11,7 @@ from dataclasses import dataclass, field
 
 from ..cli import words
 from ..host import locks, mail, safe
-from ..room import backups, dump, members, names, program, server, settings, texts
+from ..room import backups, dump, look, members, names, program, server, settings
 from ..room.end_dates import Changed, Ending, ending, is_meant, taken_back
 from ..cli.report import Refused, say
 from ..room.settings import Room
@@ -93,8 +93,8 @@ class Run:
                 self.not_done(due.path, one.words(), why or out.decode(errors="replace").strip())
 
     def all(self, night: Iterable[dump.Object]) -> None:
-        """By the lists of last night it is known whether anything is to be done. The list of an
-        object may be another one by now: only what it says then counts. What is only said of an
+        """By the lists before a stop it is known whether anything is to be done. The list of an
+        object may be another one by then: only what it says then counts. What is only said of an
         access that has ended goes with the next one."""
         found = [due for due in self.find(night) if due.ends]
         ahead = self.tell_ahead()
@@ -120,7 +120,7 @@ class Run:
             return
         self.undone.clear()
         with server.at_rest(self.room):
-            now = self.find(dump.parsed(members.listed(self.room).split(b"\n")))
+            now = self.find(dump.parsed(members.printed(self.room, "dump").split(b"\n")))
             begun = time.monotonic()
             for number, due in enumerate(sorted(now, key=lambda due: not due.ends)):
                 if time.monotonic() - begun > REST:
@@ -170,7 +170,8 @@ def run(given: argparse.Namespace) -> int:
     os.chdir("/")
     room = settings.room(given.room)
     if not backups.known(room).backups:
-        raise Refused("no backup yet, by whose lists end dates are found: systemctl start "
+        raise Refused("no backup yet, by whose date the clock is judged: systemctl start "
                       f"{room.nightly}")
-    with locks.lock(room.unit, 60), texts.of_last(room, texts.LISTS) as lists:
+    with locks.lock(room.unit, 60):
+        lists = look.at(room, "dump", may_stop=not given.dry_run)[0].split(b"\n")
         return 1 if take_back(room, lists, last_day(room), given.dry_run) else 0

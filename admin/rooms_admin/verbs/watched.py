@@ -412,6 +412,23 @@ def see_connections() -> list[Finding]:
     return found or [(OK, "")]
 
 
+def see_tls() -> list[Finding]:
+    """A site that has none, unless somebody has said that it is meant so."""
+    file = machine.ROOT + template.SETTINGS
+    if not (os.path.exists(file)
+            and os.path.lexists(f"{machine.ROOT}/etc/nginx/sites-enabled/rooms")):
+        return []
+    try:
+        front = settings.front(file)
+    except Refused:
+        # That is told by the look at its certificate.
+        return []
+    if front.certificate or front.unencrypted:
+        return []
+    return [(WARNING, "passwords and documents travel unencrypted: rooms-admin setup --tls, or "
+             f"UNENCRYPTED=yes in {template.SETTINGS} if that is meant")]
+
+
 def see_certificates() -> list[Finding]:
     """The site's, if it has one, and those by which machines know one another."""
     site = machine.ROOT + "/etc/rooms/site"

@@ -4,6 +4,10 @@ say so. Who is in the groups that these name comes last. Whoever has no line cou
 'every other name'. With --below each caller has one, and others follow where somebody could do
 something else further down.
 
+With --user it is all that one user could do at PATH and below: a line for the first, and for each
+object where it is something else than in its folder. A name that nothing of the room names could do
+as much as 'every other name'.
+
 With --change it is who could change any of that: set a list (C) or an owner (o), or remove or move
 something, at PATH or at a folder above. Nobody else could, alone or together.
 
@@ -77,6 +81,13 @@ def _changing(place: Place, path: str) -> Iterator[Row]:
                 yield row._replace(path=one, rights=letters)
 
 
+def _of_user(place: Place, path: str, user: str) -> list[Row]:
+    """Whom the review names has a row at the root."""
+    caller = user if user in place.at[0] else OTHERS
+    here = [row._replace(path=path) for row in place.at[-1].values() if row.user == caller]
+    return here + [row for row in place.below if row.user == caller]
+
+
 def _known(rows: Iterable[Object | Pair], wanted: set[bytes]) -> reasons.Reasons:
     """Those objects, and all groups."""
     objects: dict[bytes, Object] = {}
@@ -90,23 +101,31 @@ def _known(rows: Iterable[Object | Pair], wanted: set[bytes]) -> reasons.Reasons
 
 
 def arguments(parser: words.Parser) -> None:
-    words.word(parser, "path", "PATH", asked.PATH)
-    words.flag(parser, "--below", "say it of what is below too")
-    words.flag(parser, "--change", "say who could change what others may do there")
+    parser.forms = ["[--below | --change] [--backup BACKUP] [--room ROOM] [--json] PATH",
+                    "--user NAME [--backup BACKUP] [--room ROOM] [--json] [PATH]"]
+    words.word(parser, "path", "[PATH]", f"{asked.PATH}; with --user all of it without PATH")
+    how = parser.add_mutually_exclusive_group()
+    words.flag(how, "--below", "say it of what is below too")
+    words.flag(how, "--change", "say who could change what others may do there")
+    words.option(how, "--user", "NAME", "say all that this user could do there and below")
     asked.arguments(parser)
 
 
 def _rows(given: argparse.Namespace, lines: Iterable[str], path: str) -> list[Row]:
-    place = review.seen_at(review.rows(lines), path, given.below)
+    place = review.seen_at(review.rows(lines), path, given.below or bool(given.user))
+    if given.user:
+        return _of_user(place, path, given.user)
     if given.change:
         return list(_changing(place, path))
     return [*_at(place, path, not (given.below or given.json)), *place.below]
 
 
 def run(given: argparse.Namespace) -> int:
-    here = asked.path(given.path)
-    if given.below and given.change:
-        raise Refused("bad arguments: --change looks above PATH, and --below below it")
+    if not given.path and not given.user:
+        raise Refused("bad arguments: PATH is missing, or --user NAME")
+    here = asked.path(given.path or "/")
+    if given.user:
+        asked.name(given.user)
     room, folder = asked.backup(given)
     with texts.beside(room, folder, texts.REVIEW) as source:
         rows = _rows(given, texts.of_csv(source), _decoded(here))
@@ -122,7 +141,7 @@ def run(given: argparse.Namespace) -> int:
         return 0
     named: set[str] = set()
     for line in lines:
-        print(line.text(given.below or given.change))
+        print(line.text(given.below or given.change or bool(given.user)))
         named.update(line.groups())
     for group in sorted(named):
         members = map(report.line, sorted(known.groups.get(group, ())))

@@ -1,0 +1,83 @@
+"""Settings of a room, or of the site, by their names: each is put in the place of its last line, or
+at the end, and all other lines stay. What the file would say then is looked at first, so nothing
+that a verb would refuse is written. Last it prints what has to be done so that they count."""
+import argparse
+import os
+
+from ..cli import alike, words
+from ..cli.report import Refused
+from ..host import locks
+from ..room import settings
+from ..site import template, values
+from . import setup
+
+_SERVER = {"DRIVE", "FILE", "PROGRAM"}
+
+
+def arguments(parser: words.Parser) -> None:
+    parser.forms = ["[--room ROOM | --site] [--dry-run] [--destdir DIR] NAME=VALUE [NAME=VALUE ..]"]
+    words.word(parser, "values", "NAME=VALUE ..", "a setting, and its value, which may be empty")
+    whose = parser.add_mutually_exclusive_group()
+    words.room(whose)
+    words.flag(whose, "--site", "those of the site, in /etc/rooms/site")
+    setup.image(parser)
+
+
+def _wanted(given: list[str], path: str, known: dict[str, str]) -> dict[str, str]:
+    found: dict[str, str] = {}
+    for one in given:
+        name, equals, value = one.partition("=")
+        if not equals or "\n" in value:
+            raise Refused(f"bad arguments: '{one}' isn't NAME=VALUE")
+        if name not in known:
+            raise Refused(f"no setting: {path} has no {name}{alike.meant(name, known)}")
+        if name in found:
+            raise Refused(f"bad arguments: {name} stands twice")
+        found[name] = value
+    return found
+
+
+def _file(given: argparse.Namespace, root: str) -> str:
+    """As the machine names it."""
+    if given.site:
+        return template.SETTINGS
+    if "/" in given.room:
+        return str(given.room)
+    path = f"{'/etc/rooms' if root else settings.HOME}/{given.room or 'office'}"
+    return next((path + end for end in (".conf", ".on") if os.path.exists(root + path + end)),
+                path + ".conf")
+
+
+def _tell(path: str, changed: set[str], kind: type) -> None:
+    """What has them count. Other settings are read by each run."""
+    name = settings.name_of(path)
+    site = {one.name for one in settings.of_kind(settings.Reached).values()} - {"EARLIER_FROM"}
+    todo = []
+    if kind is not settings.Room or changed & site:
+        todo.append("rooms-admin setup")
+    if kind is settings.Room and changed & _SERVER:
+        todo.append(f"systemctl restart rooms@{name}")
+    if kind is settings.Room and "LIMIT" in changed:
+        todo.append(f"systemctl restart rooms-full@{name}")
+    if todo:
+        print(f"it counts after: {'; '.join(todo)}")
+
+
+def run(given: argparse.Namespace) -> int:
+    made = setup.look_first(given.destdir, given.dry_run)
+    path = _file(given, made.root)
+    kind = settings.kind_of(path)
+    with locks.machine(made.root, made.dry):
+        if not os.path.exists(made.root + path):
+            raise Refused(f"no settings: {path} isn't there")
+        wanted = _wanted(given.values, path, settings.known(kind))
+        text = template.read(made.root + path)
+        settings.look_at(path, settings.changed(text, wanted))
+        changed = {name for name, value in wanted.items()
+                   if settings.value(made.root + path, name) != value}
+        values.set_values(made, path, wanted)
+    if not changed:
+        print("nothing to change")
+    elif not made.dry:
+        _tell(path, changed, kind)
+    return 0
