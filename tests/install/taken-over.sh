@@ -34,7 +34,8 @@ probed() { # NAME UNIT WHAT-IT-CAN-DO ..: who starts as root goes on as the user
   does 'as it was' 'systemctl daemon-reload'
 }
 probed 'in the place of a door' rooms-door@office \
-  'write /var/tmp' 'ask /run/rooms/office/socket' 'ask /run/rooms/invoices/socket'
+  'write /var/tmp' 'write /var/lib/rooms-changes/office' 'ask /run/rooms/office/socket' \
+  'ask /run/rooms/invoices/socket'
 probed 'in the place of a watch' rooms-full@office \
   'read /etc/rooms/office.conf' 'read /etc/nginx/nginx.conf' 'list /var/lib/rooms' \
   'list /var/log/nginx' 'write /run/rooms-full' 'write /var/tmp' \

@@ -19,7 +19,7 @@ from contextlib import ExitStack
 
 from ..cli import report, words
 from ..host import commands, locks, safe
-from ..room import (backups, health, machine, passwords, private_server, program, server,
+from ..room import (backups, dates, health, machine, passwords, private_server, program, server,
                     settings)
 from . import machine_tar, restore_machine
 from ..cli.report import Interrupted, Refused, Stop, say
@@ -64,6 +64,7 @@ class Restore:
                 self.name = "restoring"
         self.kept = ""
         self.own = False
+        self.dates: dates.Restored | None = None
         self.stage: int | None = None
         self.old: int | None = None
         self.new: int | None = None
@@ -152,6 +153,8 @@ class Restore:
             if status != 0:
                 raise Stop(f"no backup: verify of {backup}/{self.base} gives status {status}: "
                            f"{text or out.decode(errors='replace').strip()}")
+            assert self.dates
+            self.dates.look(copied)
             self.make_stage()
             assert self.new is not None
             try:
@@ -190,6 +193,7 @@ class Restore:
 
     def restore(self, backup: str, named: str) -> None:
         self.own = True
+        self.dates = dates.Restored(self.room, backup)
         self.make_copy(backup)
         self.stop_server()
         # The server may have been started meanwhile.
@@ -201,6 +205,8 @@ class Restore:
             raise Stop(f"the files could not be exchanged: {fault.strerror}") from fault
         self.keep_old()
         self.remove_stage()
+        assert self.dates
+        self.dates.tell()
         # A unit that has given up can't be started by hand before this.
         server.systemctl("reset-failed", self.room.unit)
         print(f"restored {self.room.file} from {backup}")
@@ -263,6 +269,8 @@ def restore_room(conf: str, backup: str, start: bool) -> None:
             raise
         finally:
             report.ignore_signals()
+            if task.dates:
+                task.dates.end()
             task.start_server()
 
 

@@ -19,7 +19,8 @@ from dataclasses import dataclass
 
 from ..cli import report, words
 from ..host import locks
-from ..room import dump, known, members, names, naming, passwords, published, server, settings
+from ..room import (dates, dump, known, members, names, naming, passwords, published, server,
+                    settings)
 from . import handover, people
 from ..room.dump import Pair
 from ..room.known import Known
@@ -187,6 +188,7 @@ def _remove(place: str, room: Room | None, asked: Words) -> int:
         _show_known(room)
     if room is None or asked.is_password:
         return 0
+    dates.tell(room, "forget", name)
     with _locked(room, f"{name} has no password any more"):
         with server.at_rest(room):
             now = members.read(room)
