@@ -31,7 +31,7 @@ class Dated(Over):
         """A door as the last one left its files."""
         if hasattr(self, "keeper"):
             self.keeper.close()
-        self.keeper = Keeper(self.at("changes"), shows, self.at("seen"), days)
+        self.keeper = Keeper(self.at("changes"), shows, self.at("seen"), days, self.at("mark"))
         self.door.keeper = self.keeper
         self.door.room = Room(self.at("room"), note=self.keeper.note)
         self.addCleanup(self.keeper.close)

@@ -155,6 +155,20 @@ A:fd:bob:rwxatc
 holds 'leaves no line' [ "$(size_of $journal)" = "$before" ]
 holds 'no body is in it' [ "$(grep -c -e 12345 -e secret $journal)" = 0 ]
 
+# At the end of the machine it says that no line is missing.
+kill -TERM "${doors[-1]}"
+wait "${doors[-1]}"
+status=$?
+holds "the door is stopped: $(tail -n 3 office.err)" [ "$status" = 0 ]
+python3 - changes/office/dates.db >got <<'END'
+import sqlite3, sys
+print(sqlite3.connect(sys.argv[1]).execute(
+    "SELECT value FROM told WHERE what = 'stopped'").fetchone())
+END
+echo "('yes',)" >wanted
+same 'and has written that' got wanted
+start_door office "${dated[@]}"
+
 # A full disk keeps nobody from being answered, and a line has its place.
 stop_door() {
   kill -9 "${doors[-1]}"

@@ -186,6 +186,65 @@ class Nights(Dated):
         self.assertEqual((rows["b"], rows["m"], rows["n"]), (before, before, {}))
         self.assertEqual(rows["e"], {"size": 0, "before": NIGHT // 1000})
 
+    def copied(self, *names: str) -> list[int | None]:
+        self.keeper.catch_up()
+        return [self.keeper.in_copy(tuple(name.split("/"))) for name in names]
+
+    def test_where_it_stood_in_the_copy(self) -> None:
+        self.add(line("bob", "PUT", "/doc/f/a", 204, 3), line("bob", "PUT", "/doc/f/b", 204, 3))
+        self.assertEqual(self.copied("f/a"), [None])
+        now = time.time() + 9
+        self.night(F, A, B, at=int(now * 1000))
+        self.assertEqual(self.copied("f", "f/a", "f/b", "f/none"), [2, 3, 4, None])
+        # What moves stands there as before; what is new or changed doesn't.
+        self.add(line("bob", "POST", "/move/f/a", 204, 9, '{"to":"/f/c"}', at=now + 60),
+                 line("bob", "PUT", "/doc/f/a", 201, 3, at=now + 61),
+                 line("bob", "POST", "/doc/f/b", 204, 3, at=now + 62))
+        self.assertEqual(self.copied("f/c", "f/a", "f/b"), [3, None, None])
+        # Nor what changed since the next one was made.
+        later: list[Object] = [(12, 0, "f", None, None), (13, 12, "a", 3, "11"),
+                               (14, 12, "b", 6, "22"), (15, 12, "c", 3, "11")]
+        self.write(self.list_of(*later, at=int(now * 1000) + 60_500))
+        self.keeper.take_night()
+        self.assertEqual(self.copied("f/c", "f/a", "f/b"), [15, None, None])
+
+    def test_what_nobody_vouches_for(self) -> None:
+        self.add(line("bob", "PUT", "/doc/f/a", 204, 3))
+        self.rows()
+        at = int(time.time() * 1000) + 9000
+        self.night(F, A, B, at=at)
+        self.assertEqual(self.copied("f/a"), [3])
+        # A door that is killed, while the machine goes on, loses nothing.
+        self.begin("who")
+        self.assertEqual(self.copied("f/a"), [3])
+        self.keeper.stop()
+        os.unlink(self.at("mark"))
+        self.begin("who")
+        self.assertEqual(self.copied("f/a"), [3], "a clean stop of the machine")
+
+        def cut_off() -> None:
+            os.unlink(self.at("mark"))
+            self.begin("who")
+
+        def tear() -> None:
+            self.add(line("bob", "PUT", "/doc/f/z")[:50] + b"\n")
+
+        def damage() -> None:
+            self.keeper.close()
+            with open(self.at("changes/dates.db"), "wb") as file:
+                file.write(b"x" * 9000)
+            self.begin("who")
+
+        def restore() -> None:
+            self.tell({"number": 1, "at": int(time.time() * 1000) + 20_000, "restored": 0})
+        for turn, harm in enumerate((cut_off, tear, damage, restore)):
+            with mock.patch.object(time, "time", return_value=at / 1000 + turn * 1000 + 900):
+                harm()
+                self.assertEqual(self.copied("f/a"), [None], harm.__name__)
+                # Until the list of a copy that is made later.
+                self.night(F, A, B, at=at + (turn + 1) * 1_000_000)
+                self.assertEqual(self.copied("f/a"), [3], harm.__name__)
+
     def test_words_that_are_none(self) -> None:
         self.add(line("bob", "PUT", "/doc/f/a", 204, 3))
         with open(self.at("seen.told"), "wb") as file:

@@ -6,6 +6,7 @@ their names. It has no right, no password and no copy of a document. It goes on 
 Status: 2 refused, 3 the socket can't be made."""
 import argparse
 import os
+import signal
 import sys
 from typing import NoReturn
 
@@ -44,7 +45,9 @@ def main() -> int:
     words.add_argument("--days", type=int, default=0, help="how long names are kept; 0 keeps them")
     given = words.parse_args()
     try:
-        keeper = begun(given.changes, given.dates, given.told, given.days)
+        mark = os.path.join(os.path.dirname(given.listen), "dates")
+        keeper = begun(given.changes, given.dates, given.told, given.days, mark)
+        signal.signal(signal.SIGTERM, signal.default_int_handler)
         serve(given.room, given.listen, given.drive == "yes", given.full, keeper)
     except KeyboardInterrupt:
         pass

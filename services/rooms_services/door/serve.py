@@ -241,4 +241,8 @@ def serve(room: str, listen: str, has_drive: bool, full: str, keeper: Keeper | N
         if keeper:
             threading.Thread(target=keeper.run, daemon=True).start()
         print(f"listening {listen}", file=sys.stderr, flush=True)
-        server.serve_forever()
+        try:
+            server.serve_forever()
+        finally:
+            if keeper:
+                keeper.stop()

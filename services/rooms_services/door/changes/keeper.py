@@ -20,13 +20,13 @@ from . import lines, nights
 from .changing import Changing
 from .journal import Journal
 from .nights import Night, NoList
-from .store import Inside, Known, Newest, Store
+from .store import GAP, Inside, Known, Newest, Store
 
 # Between two looks at the journal; and how long somebody who asks waits for what isn't taken yet.
 TICK, PATIENCE = 2.0, 0.5
 # Between two looks for names that are too old; and a day, in milliseconds.
 HOUR, _DAY = 3600.0, 86_400_000
-_FILE, _LOCK = "dates.db", "lock"
+_FILE, _LOCK, STOPPED = "dates.db", "lock", "stopped"
 # What SQLite puts beside a file.
 _ENDS = ("", "-wal", "-shm")
 _Found = TypeVar("_Found")
@@ -40,8 +40,11 @@ class Keeper:
     """Of one room. `shows` is 'when' or 'who'; `told` is the beginning of the files in which root
     tells something (nights), and names are kept for so many days."""
 
-    def __init__(self, folder: str, shows: str, told: str = "", days: int = 0) -> None:
+    def __init__(self, folder: str, shows: str, told: str = "", days: int = 0,
+                 mark: str = "") -> None:
         self.shows = shows
+        # A file that is there since this machine has started, once a door was here.
+        self._mark = mark
         self._folder = folder
         self._told = told
         self._days = days
@@ -107,10 +110,26 @@ class Keeper:
             self._doubt = object()
         if self._store is None:
             self._store = self._opened()
+            self._look_at_start(self._store)
             known = {ino for ino, _ in self._journal.sizes()}
             for ino in self._store.taken().keys() - known:
                 self._store.untake(ino)
         return self._store
+
+    def _look_at_start(self, store: Store) -> None:
+        """Where the machine ended without a word, the disk may lack lines that nginx wrote."""
+        if self._mark and not os.path.lexists(self._mark):
+            if not store.told(STOPPED):
+                store.keep_told(GAP, str(int(time.time() * 1000)))
+            os.close(os.open(self._mark, os.O_CREAT | os.O_WRONLY, 0o600))
+        store.keep_told(STOPPED, "")
+
+    def stop(self) -> None:
+        """As when the machine is shut down."""
+        with suppress(Unknown), self._alone():
+            store = self._ready()
+            store.keep_told(STOPPED, "yes")
+            store.settle()
 
     def _opened(self) -> Store:
         """What is damaged begins anew, with nothing. nginx's group passes through the folder, so it
@@ -214,10 +233,10 @@ class Keeper:
         changing, doubt = Changing(store), self._doubt
         store.begin()
         if doubt:
-            store.doubt(int(time.time() * 1000))
+            self._note_gap(store)
         for line in some:
             if lines.is_torn(line):
-                store.doubt(int(time.time() * 1000))
+                self._note_gap(store)
             changing.take(line)
         if upto:
             store.take(*upto)
@@ -227,6 +246,11 @@ class Keeper:
         store.commit()
         if self._doubt is doubt:
             self._doubt = None
+
+    def _note_gap(self, store: Store) -> None:
+        now = int(time.time() * 1000)
+        store.doubt(now)
+        store.keep_told(GAP, str(now))
 
     def _change_file(self, store: Store) -> None:
         """What was taken is on the disk before the lines go."""
@@ -332,6 +356,11 @@ class Keeper:
         except Unknown:
             return {}
 
+    def in_copy(self, names: Names) -> int | None:
+        """Its number in the last night's copy, if it is as that has it and all changes since then
+        are known."""
+        return self._ask(lambda store: store.in_copy(names) if store.vouched() else None)
+
     def find(self, names: Names) -> int | None:
         return self._ask(lambda store: store.find(names))
 
@@ -342,12 +371,13 @@ class Keeper:
         return self._ask(lambda store: store.newest(folder, after, most))
 
 
-def begun(folder: str, shows: str, told: str = "", days: int = 0) -> Keeper | None:
+def begun(folder: str, shows: str, told: str = "", days: int = 0,
+          mark: str = "") -> Keeper | None:
     """What was kept goes where nothing is kept any more."""
     if not folder:
         return None
     if shows:
-        return Keeper(folder, shows, told, days)
+        return Keeper(folder, shows, told, days, mark)
     with suppress(OSError):
         for name in os.listdir(folder):
             with suppress(OSError):

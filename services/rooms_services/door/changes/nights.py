@@ -17,7 +17,7 @@ from typing import IO
 from ..ask.answers import Stop
 from ..ask.paths import LONGEST_NAME, names_in
 from ..ask.room import USER
-from .store import ROOT, OfCopy, Store
+from .store import COPY, GAP, ROOT, OfCopy, Store
 
 NIGHT, WORDS, RESTORED = "night", "words", "restored"
 # Looked at in one go, while nobody is answered.
@@ -88,6 +88,7 @@ class Night:
             store.drop_ahead()
             store.forget_unused()
             store.keep_told(NIGHT, self.mark)
+            store.keep_told(COPY, str(self.at))
             return False
         return True
 
@@ -104,7 +105,7 @@ class Night:
             number = store.add_at_night(up, one, self.at)
         else:
             number = there.id
-            store.note_night(number, self.at)
+            store.note_night(number, self.at, one.number if there.at <= self.at else None)
             if not one.is_folder and there.at <= self.at:
                 if there.size not in (None, one.size) or there.sum not in (None, one.sum):
                     store.changed_before(number, self.at)
@@ -165,3 +166,4 @@ def _take_word(store: Store, at: int, word: dict[str, object]) -> None:
     elif "restored" in word:
         store.go_back(int(str(word["restored"])))
         store.keep_told(RESTORED, str(at))
+        store.keep_told(GAP, str(at))

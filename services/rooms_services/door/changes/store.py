@@ -8,6 +8,9 @@ from typing import NamedTuple
 from ..ask.paths import Names
 
 ROOT = 0
+# What is remembered of the last list of a night that was taken whole, which is its moment, and when
+# it was last that a change may not have been seen, both in milliseconds.
+COPY, GAP = "copy", "gap"
 # A date that is this far in the future, in milliseconds, is that of a clock that was wrong.
 AHEAD = 300_000
 # How many folders are remembered by their paths.
@@ -17,7 +20,7 @@ VERSION = 1
 _TABLES = f"""
 CREATE TABLE IF NOT EXISTS node(id INTEGER PRIMARY KEY, up INTEGER NOT NULL, name TEXT NOT NULL,
   folder INTEGER NOT NULL, size INTEGER, at INTEGER, who INTEGER, before INTEGER, sum BLOB,
-  moved INTEGER, night INTEGER, UNIQUE(up, name)) STRICT;
+  moved INTEGER, night INTEGER, copied INTEGER, UNIQUE(up, name)) STRICT;
 CREATE INDEX IF NOT EXISTS node_folder ON node(up, name) WHERE folder = 1;
 CREATE INDEX IF NOT EXISTS node_at ON node(up, at) WHERE folder = 0 AND at IS NOT NULL;
 CREATE TABLE IF NOT EXISTS who(id INTEGER PRIMARY KEY, name TEXT NOT NULL UNIQUE) STRICT;
@@ -209,7 +212,7 @@ class Store:
         self._db.execute(
             "INSERT INTO node(up, name, folder, size, at, who) VALUES(?1, ?2, ?3, ?4, ?5, ?6) "
             "ON CONFLICT(up, name) DO UPDATE SET folder = ?3, size = ?4, at = ?5, who = ?6, "
-            "before = NULL, sum = NULL",
+            "before = NULL, sum = NULL, copied = NULL",
             (above, name, int(is_folder), size, by.at, self._user(by.user)))
 
     def size(self, above: int, name: str) -> int | None:
@@ -225,15 +228,15 @@ class Store:
     def unsure(self, one: int) -> None:
         """It may have changed: nothing is told of it until it changes again."""
         self._db.execute("UPDATE node SET size = NULL, at = NULL, who = NULL, before = NULL, "
-                         "sum = NULL WHERE id = ?", (one,))
+                         "sum = NULL, copied = NULL WHERE id = ?", (one,))
 
     def doubt(self, at: int, top: int = ROOT) -> None:
         """Each at or below this one may have changed until then; what changed later has."""
         self._db.execute(
             "WITH RECURSIVE below(id) AS (VALUES(?) UNION ALL SELECT node.id FROM node, below "
             "WHERE node.up = below.id) UPDATE node SET at = NULL, who = NULL, size = NULL, "
-            "sum = NULL, before = iif(folder, NULL, ?) WHERE id IN below AND coalesce(at, 0) <= ?",
-            (top, at, at))
+            "sum = NULL, copied = NULL, before = iif(folder, NULL, ?) "
+            "WHERE id IN below AND coalesce(at, 0) <= ?", (top, at, at))
 
     def go_back(self, at: int) -> None:
         """The room is what it was at that moment, or nobody knows at which, where that is 0."""
@@ -246,6 +249,7 @@ class Store:
         self._db.execute(
             "UPDATE node SET at = NULL, who = NULL, size = NULL, sum = NULL, "
             "before = iif(folder, NULL, ?1) WHERE at >= ?1 OR before >= ?1", (at,))
+        self._db.execute("UPDATE node SET copied = NULL")
         self.forget_unused()
 
     def give_up_remembered(self) -> None:
@@ -293,12 +297,14 @@ class Store:
 
     def add_at_night(self, up: int, one: OfCopy, night: int) -> int:
         return self._db.execute(
-            "INSERT INTO node(up, name, folder, size, before, sum, night) VALUES(?,?,?,?,?,?,?)",
+            "INSERT INTO node(up, name, folder, size, before, sum, night, copied) "
+            "VALUES(?,?,?,?,?,?,?,?)",
             (up, one.name, int(one.is_folder), one.size, None if one.is_folder else night,
-             one.sum, night)).lastrowid or ROOT
+             one.sum, night, one.number)).lastrowid or ROOT
 
-    def note_night(self, one: int, night: int) -> None:
-        self._db.execute("UPDATE node SET night = ? WHERE id = ?", (night, one))
+    def note_night(self, one: int, night: int, copied: int | None) -> None:
+        self._db.execute("UPDATE node SET night = ?, copied = ? WHERE id = ?",
+                         (night, copied, one))
 
     def set_at_night(self, one: int, size: int | None, total: bytes | None) -> None:
         self._db.execute("UPDATE node SET size = ?, sum = ? WHERE id = ?", (size, total, one))
@@ -321,6 +327,19 @@ class Store:
             "kept(id) AS (SELECT id FROM node WHERE night = ?1 OR at > ?1 OR id IN later UNION "
             "SELECT node.up FROM node, kept WHERE node.id = kept.id) "
             "DELETE FROM node WHERE id NOT IN kept", (night,))
+
+    def in_copy(self, names: Names) -> int | None:
+        """The number that an object has in the copy of the last night whose list was taken whole;
+        None of what is new or changed since."""
+        found = self.find(names)
+        row = self._db.execute("SELECT copied FROM node WHERE id = ? AND night = ?",
+                               (found, self.told(COPY))).fetchone() if found else None
+        return row[0] if row else None
+
+    def vouched(self) -> int | None:
+        """The moment of that copy, if each change since then is known."""
+        copy, gap = int(self.told(COPY) or 0), int(self.told(GAP) or 0)
+        return copy if copy > gap else None
 
     def drop_ahead(self) -> None:
         """Dates of a clock that was wrong."""
