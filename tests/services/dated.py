@@ -207,6 +207,11 @@ class Play:
     def wrong(self) -> list[str]:
         found: list[str] = []
         seen = 0
+        until = time.monotonic() + PATIENCE
+        # (it tells nothing while it lags)
+        while self.ask("root", "GET", "/door/latest/", self.top)[0] != 200:
+            assert time.monotonic() < until
+            time.sleep(0.1)
         for folder in self.known.folders:
             status, body = self.ask("root", "GET", "/door/folder/", folder)
             for row in json.loads(body)["rows"]:
