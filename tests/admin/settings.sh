@@ -35,7 +35,7 @@ told 'what would be done' 0 'would: new file /etc/rooms/office.conf, with KEEP=3
 is 'is not done' office.conf "${first[@]}" KEEP=14 TITLE=office HOURS=0
 sets DRIVE=yes 'TITLE=Our office = ours' KEEP=14
 told 'several' 0 'with DRIVE=yes, TITLE=Our office = ours' \
-  'it counts after: rooms-admin setup; systemctl restart rooms@office'
+  'it counts after: rooms-admin setup; systemctl restart rooms-door@office'
 is 'of which one is new' office.conf "${first[@]}" KEEP=14 'TITLE=Our office = ours' HOURS=0 \
   DRIVE=yes
 sets LIMIT=300

@@ -143,7 +143,7 @@ write_nginx() { # MACHINE ADDRESS
       -e "s#unix:/run/rooms-earlier/#unix:$PWD/$1/run/rooms-earlier/#" \
       -e "s/_read_timeout 120s;/_read_timeout 8s;/" \
       -e "s#/var/log/nginx/error.log#$PWD/$1.log#; s#/var/log/nginx/#$PWD/$1.#" \
-      -e "s#/run/rooms-full#$PWD/$1/full#" "$file"
+      -e "s#/run/rooms-full#$PWD/$1/full#" -e "s#/var/lib/rooms-changes#$PWD/$1/changes#" "$file"
   done
   {
     echo "daemon off; pid $PWD/$1.pid; error_log $PWD/$1.log; user root; worker_processes 1;"
@@ -224,13 +224,22 @@ gets 'owners' 200 '{"group":"staff","kind":"document","owner":"carol"}' carol:c 
 gets 'a removal' 204 '' carol:c /object/big -X DELETE
 # Its door is there too, and the front end here knows nothing of it.
 gets 'no door yet' 502 - carol:c '/door/find/?x'
-mkdir -p B/run/door/invoices
+mkdir -p B/run/door/invoices B/changes/invoices
 starts at_b python3 -IB "$repo/services/rooms_services/door/__main__.py" --room "$room/socket" \
-  --listen "$PWD/B/run/door/invoices/socket" --drive=yes
+  --listen "$PWD/B/run/door/invoices/socket" --drive=yes --dates=who \
+  --changes "$PWD/B/changes/invoices"
 within 'a door at B' [ -S B/run/door/invoices/socket ]
 gets names 200 \
   '{"all":true,"at":"/a","found":[{"kind":"document","path":"/a/ö ß"}],"unlisted":[]}' \
   bob:b '/door/find/a?SS'
+gets 'a change' 201 '' carol:c /doc/a/dated -X PUT --data-binary 123
+is_dated() {
+  ${at_a[@]+"${at_a[@]}"} curl -s -u carol:c "$base/door/folder/a" >got
+  grep -q '"name":"dated","size":3,"when":[0-9]*,"who":"carol"}' got
+}
+within 'is known there, and by whom' is_dated
+holds 'and A has no line of it' is_missing A/changes
+gets 'it goes' 204 '' carol:c /object/a/dated -X DELETE
 gets 'what was seen' 412 - carol:c /door/doc/a/%C3%B6%20%C3%9F -X PUT --data-binary y \
   -H 'If-None-Match: *'
 gets 'not as somebody else' 403 - bob:b /door/dacl/a -X PUT --data-binary list: -H 'If-Match: *' \

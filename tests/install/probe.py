@@ -59,8 +59,14 @@ def main():
     for path in ("/etc", "/etc/nginx", "/etc/rooms", "/usr", "/run", "/run/rooms-full",
                  "/run/rooms/invoices", "/var/lib",
                  "/var/lib/rooms", "/var/lib/rooms-web", "/var/lib/rooms-passwords", "/var/backups",
-                 "/var/cache/rooms-nights", "/run/rooms-nights", "/var/tmp", "/dev/shm"):
+                 "/var/cache/rooms-nights", "/run/rooms-nights", "/var/tmp", "/dev/shm",
+                 "/var/lib/rooms-told", "/var/lib/rooms-changes", "/var/lib/rooms-changes/office",
+                 "/var/lib/rooms-changes/invoices"):
         tries(f"write {path}", lambda path=path: writes(f"{path}/probe"))
+    # Where nginx opens what somebody else may put there.
+    link = "/var/lib/rooms-changes/office/link"
+    tries("have nginx write elsewhere", lambda: os.symlink("/var/log/nginx/access.log", link))
+    tries("have nginx wait", lambda: os.mkfifo(f"{link}.pipe"))
     for path in ("/run/rooms/office/socket", "/run/rooms/invoices/socket",
                  "/run/rooms-front/passwords.sock", "/run/rooms-own-password/socket",
                  "/run/rooms-nights/socket", "/run/rooms-earlier/socket",

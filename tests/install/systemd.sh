@@ -66,6 +66,28 @@ cat "$work/out" >seen
 holds "$(tr '\n' ' ' <seen): it has no capability" grep -qx 'CapEff: 0000000000000000' seen
 holds 'and can get none' grep -qx 'NoNewPrivs: 1' seen
 holds 'no password and no settings' [ "$(grep -c -e nginx -e htpasswd -e '^passwd' seen)" = 0 ]
+# When a document changed: nginx writes lines for it, and root tells it what a night's copy has.
+does 'a change' 'curl -s -o /dev/null -u alice:a -X PUT --data-binary 123 \
+  http://127.0.0.1/doc/dated'
+until_inside 'is known' 'curl -s -u alice:a http://127.0.0.1/door/folder/ |
+  grep -q "\"name\":\"dated\",\"size\":3,\"when\":"'
+does 'whose the files are' 'cd /var/lib/rooms-changes &&
+  stat -c "%n %U %G %a" . office office/journal office/dates.db'
+printf '%s\n' '. root root 755' 'office rooms-door www-data 710' \
+  'office/journal rooms-door www-data 620' 'office/dates.db rooms-door www-data 600' >wanted
+same 'nginx adds lines, and reads none' "$work/out" wanted
+does 'a night' 'systemctl start rooms-nightly@office
+  cd /var/lib/rooms-told && stat -c "%n %U %a" . office.night'
+printf '%s\n' '. root 711' 'office.night rooms-door 400' >wanted
+same 'has a list for it' "$work/out" wanted
+cat >"$machine/usr/local/lib/last_list.py" <<'END'
+import sqlite3
+print(*sqlite3.connect("/var/lib/rooms-changes/office/dates.db").execute(
+    "SELECT value FROM told WHERE what = 'copy'").fetchone())
+END
+until_inside 'which it takes' '[ "$(python3 /usr/local/lib/last_list.py)" = \
+  "$(sed -n "1s/ .*//p" /var/lib/rooms-told/office.night)" ]'
+does 'the document goes' 'curl -s -u alice:a -X DELETE http://127.0.0.1/object/dated'
 does 'it is killed' 'systemctl kill -s KILL rooms-door@office'
 until_inside 'and comes back' \
   'curl -sf -o /dev/null -u alice:a http://127.0.0.1/door/find/?x'

@@ -27,6 +27,7 @@ for_here() { # FILE
     -e "s|/run/rooms-full|$PWD/run/rooms-full|" \
     -e "s|unix:/run/rooms/|unix:$PWD/run/rooms/|; s|unix:/run/rooms-door|unix:$PWD/run/door|" \
     -e "s|/var/lib/rooms-web|$PWD/root/var/lib/rooms-web|g" \
+    -e "s|/var/lib/rooms-changes|$PWD/changes|" \
     -e "s|/etc/nginx/|$PWD/|; s|/var/lib/rooms-passwords/|$PWD/|" \
     -e "s|/run/rooms-earlier/|$PWD/run/rooms-earlier/|" \
     -e "s|/run/rooms-own-password/|$PWD/|; s|/etc/rooms/|$PWD/machine/etc/rooms/|" \
@@ -98,7 +99,7 @@ start_front() { # NAME [tls]
   base=http://127.0.0.1:$front
   chmod 755 "$work" .
   chmod 644 rooms.htpasswd
-  mkdir -p sites-enabled checks machine/etc/nginx
+  mkdir -p sites-enabled checks changes/office machine/etc/nginx
   [ "$(id -u)" != 0 ] || chown root:www-data checks
   chmod 710 checks
   rm -f nginx.pid

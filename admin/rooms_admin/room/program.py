@@ -190,7 +190,19 @@ def _end_left(user: int) -> None:
 def on_copy(room: Room, copied: str, words: list[str | bytes], megabytes: int = 0,
             into: int | None = None, stdin: bytes = b"") -> tuple[int, bytes, str]:
     """A subcommand on a private copy, as the user of copies: its first word, the copy, the others.
-    The copy's folder is entered before. What is written goes to a file, or is returned."""
+    What is written goes to a file, or is returned."""
+    return _on_copy(room, copied, [room.program, words[0]], words[1:], megabytes, into, stdin)
+
+
+def helper_on_copy(room: Room, copied: str, helper: list[str | bytes], words: list[str | bytes],
+                   megabytes: int, into: int) -> tuple[int, bytes, str]:
+    """The same by another program."""
+    return _on_copy(room, copied, helper, words, megabytes, into, b"")
+
+
+def _on_copy(room: Room, copied: str, before: list[str | bytes], words: list[str | bytes],
+             megabytes: int, into: int | None, stdin: bytes) -> tuple[int, bytes, str]:
+    """What is written before the copy, whose folder is entered, and behind it."""
     user, _ = user_of_copies(room)
     who = as_user_of_copies(room)
     processes.adopt_orphans()
@@ -202,7 +214,7 @@ def on_copy(room: Room, copied: str, words: list[str | bytes], megabytes: int = 
     take = _bounded(take, most)
     with _first_to_go():
         child = commands.started(
-            [room.program, words[0], f"./{os.path.basename(copied)}", *words[1:]],
+            [*before, f"./{os.path.basename(copied)}", *words],
             limits(megabytes), who, cwd=os.path.dirname(copied))
     with child:
         try:

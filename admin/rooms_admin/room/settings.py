@@ -163,6 +163,7 @@ class Reached:
     host: str = setting("HOST", lambda text: not text or is_host(text), "a host's name")
     behind: bool = yes("BEHIND")
     drive: bool = yes("DRIVE")
+    dates: str = setting("DATES", r"(when|who)?", "when, who or empty")
     own_passwords: bool = setting("OWN_PASSWORDS", r"yes|no", "yes or no", "yes",
                                   lambda text: text == "yes")
     earlier: str = setting("EARLIER", r"owners|members|no", "owners, members or no", "owners")
@@ -232,6 +233,8 @@ class Room(Kept):
     people: str = setting("PEOPLE", r"full|names|no", "full, names or no", "names")
     review: str = setting("REVIEW", _is_folder_of_room, "a folder of the room")
     reviewer: str = setting("REVIEWER", lambda text: not text or is_user(text), "a user's name")
+    days_of_names: int = setting("DATES_NAMES", r"0|[1-9][0-9]{0,3}", "a number of days", "90",
+                                 int)
     hours: int = setting("HOURS", r"0|[1-9][0-9]{0,2}", "a number of copies, 0 to 999", "0", int)
 
     def __post_init__(self) -> None:

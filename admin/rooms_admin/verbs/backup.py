@@ -22,7 +22,7 @@ from contextlib import ExitStack
 
 from ..cli import report, words
 from ..host import locks, mail, safe
-from ..room import (backups, copying, health, machine, names, needs, private_server, program,
+from ..room import (backups, copying, dates, health, machine, names, needs, private_server, program,
                     server, settings, texts, tidying)
 from . import mine, people, until
 from ..room.backups import Found
@@ -39,8 +39,10 @@ class Night:
         self.failures: list[str] = []
         self.above = backups.folder(room)
         self.date = self.part = self.kept = ""
-        # The private copy that the program works on, and how much memory it may have for that.
+        # The private copy that the program works on, and how much memory it may have for that; and
+        # a moment before it was made.
         self.copied = ""
+        self.copied_at = 0
         self.memory = 0
         self.unread = False
         self.starts = True
@@ -101,6 +103,7 @@ class Night:
         self.tell_before(before)
         for name, (word, *rest) in texts.PRINTED.items():
             self.write_text(name, word, rest)
+        self.failed(dates.tell_night(self.room, self.copied, self.copied_at, self.memory))
         self.write_machine()
         self.remove_old(before)
 
@@ -122,6 +125,7 @@ class Night:
         copying.keep(self.room, copied, self.part)
 
     def copy_alone(self) -> copying.Copy:
+        self.copied_at = dates.now()
         rests = server.state(self.room) == "inactive"
         # A run that was killed may have left it so.
         if not rests or not server.was_left(self.room):
@@ -283,6 +287,7 @@ class Night:
                 got = client.ask("PUT", "doc", os.fsencode(document), body)
                 text = f"{got.body.decode(errors='replace')} {got.status}"
                 if got.status in (201, 204):
+                    dates.tell_changed(room, os.fsencode(document))
                     return
                 break
             except Stop as stop:

@@ -12,7 +12,7 @@ from dataclasses import dataclass, field
 
 from ..cli import report, words
 from ..host import safe
-from ..room import limit, names, settings
+from ..room import dates, limit, names, settings
 from ..room.http_client import (Client, argument, caller_arguments, caller_of, client, is_here,
                                 raise_limits)
 from ..room.size import NoRoom, Reader
@@ -235,6 +235,10 @@ def run(given: argparse.Namespace) -> int:
     except Full as full:
         ended = True
         say(str(full))
+    finally:
+        if task.replaced and is_here(given.room):
+            # nginx has no part in it.
+            dates.tell_changed(settings.room(given.room), to)
     report.end_progress()
     print(f"made {task.made}, replaced {task.replaced}, there already {task.same}, "
           f"left out {asked.left_out}")

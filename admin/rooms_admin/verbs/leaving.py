@@ -7,7 +7,7 @@ from dataclasses import dataclass
 
 from ..cli import alike
 from ..cli.report import Refused, line, say
-from ..room import dump, joining, known, look, naming, passwords
+from ..room import dates, dump, joining, known, look, naming, passwords
 from ..room.dump import Object
 from ..room.http_client import Caller
 from ..room.settings import Room
@@ -89,6 +89,8 @@ def leave(asked: Leaving) -> int:
     if asked.name in has:
         _shut_out(asked)
         done = f"{asked.name} has no password any more"
+    if not asked.is_dry:
+        dates.tell(room, "forget", asked.name)
     with joining.locked(room, "" if asked.is_dry else done):
         lists = _dump(asked, room)
         found = list(naming.of_user(_rows(lists), asked.name))

@@ -1,13 +1,13 @@
-"""remove: stops a room, and takes its settings, its place and what the web interface was told of it
-away. The room's file, its backups, its passwords and what it takes from a directory stay, so that
-the same name can be added again."""
+"""remove: stops a room, and takes its settings, its place, its dates and what the web interface was
+told of it away. The room's file, its backups, its passwords and what it takes from a directory
+stay, so that the same name can be added again."""
 import argparse
 import os
 from contextlib import ExitStack
 
 from ..cli import words
 from ..host import locks
-from ..room import published, settings
+from ..room import dates, published, settings
 from ..site import apply, password_files
 from . import add, setup
 from ..host.changes import Changes
@@ -61,6 +61,9 @@ def _remove(made: Changes, name: str) -> None:
                            f"rooms@{name}")
         _say_kept(made, kept)
         made.remove_folder(f"{published.PLACE}/{name}")
+        made.remove_folder(f"{dates.CHANGES}/{name}")
+        for told in dates.files(name):
+            made.remove(told)
         made.remove(conf)
 
 

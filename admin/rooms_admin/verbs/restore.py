@@ -19,7 +19,7 @@ from contextlib import ExitStack
 
 from ..cli import report, words
 from ..host import commands, locks, safe
-from ..room import (backups, health, machine, passwords, private_server, program, server,
+from ..room import (backups, dates, health, machine, passwords, private_server, program, server,
                     settings)
 from . import machine_tar, restore_machine
 from ..cli.report import Interrupted, Refused, Stop, say
@@ -72,6 +72,7 @@ class Restore:
                 self.name = "restoring"
         self.kept = ""
         self.own = False
+        self.dates: dates.Restored | None = None
         self.stage: int | None = None
         self.old: int | None = None
         self.new: int | None = None
@@ -157,6 +158,8 @@ class Restore:
         gets to the room's folder. Verifying writes to it; the backup isn't changed."""
         with private_server.private_copy(self.room, backup) as copied:
             verified(self.room, copied, backup)
+            assert self.dates
+            self.dates.look(copied)
             self.make_stage()
             assert self.new is not None
             try:
@@ -196,6 +199,7 @@ class Restore:
     def restore(self, backup: str, named: str, starts: bool) -> None:
         """`starts` is whether somebody else starts the server afterwards."""
         self.own = True
+        self.dates = dates.Restored(self.room, backup)
         self.make_copy(backup)
         self.stop_server()
         # The server may have been started meanwhile.
@@ -207,6 +211,8 @@ class Restore:
             raise Stop(f"the files could not be exchanged: {fault.strerror}") from fault
         self.keep_old()
         self.remove_stage()
+        assert self.dates
+        self.dates.tell()
         # A unit that has given up can't be started by hand before this.
         server.systemctl("reset-failed", self.room.unit)
         print(f"restored {self.room.file} from {backup}")
@@ -269,6 +275,8 @@ def restore_room(conf: str, backup: str, start: bool, starts: bool = False) -> N
             raise
         finally:
             report.ignore_signals()
+            if task.dates:
+                task.dates.end()
             task.start_server()
 
 

@@ -11,7 +11,9 @@ from ..room import settings
 from ..site import template, values
 from . import setup
 
-_SERVER = {"DRIVE", "FILE", "PROGRAM"}
+# Who reads what only when it starts.
+_STARTED = {"FILE": "rooms", "PROGRAM": "rooms", "DRIVE": "rooms-door", "DATES": "rooms-door",
+            "DATES_NAMES": "rooms-door", "LIMIT": "rooms-full"}
 
 
 def arguments(parser: words.Parser) -> None:
@@ -55,10 +57,9 @@ def _tell(path: str, changed: set[str], kind: type) -> None:
     todo = []
     if kind is not settings.Room or changed & site:
         todo.append("rooms-admin setup")
-    if kind is settings.Room and changed & _SERVER:
-        todo.append(f"systemctl restart rooms@{name}")
-    if kind is settings.Room and "LIMIT" in changed:
-        todo.append(f"systemctl restart rooms-full@{name}")
+    if kind is settings.Room:
+        units = {unit: None for one, unit in _STARTED.items() if one in changed}
+        todo += [f"systemctl restart {unit}@{name}" for unit in units]
     if todo:
         print(f"it counts after: {'; '.join(todo)}")
 

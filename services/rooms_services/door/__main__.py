@@ -6,6 +6,7 @@ their names. It has no right, no password and no copy of a document. It goes on 
 Status: 2 refused, 3 the socket can't be made."""
 import argparse
 import os
+import signal
 import sys
 from typing import NoReturn
 
@@ -16,6 +17,7 @@ if not __package__:
     sys.path[:0] = [above] if os.path.isdir(f"{above}/rooms_admin") else [
         above, os.path.join(os.path.dirname(above), "admin")]
 
+from rooms_services.door.changes.keeper import begun  # noqa: E402
 from rooms_services.door.serve import serve  # noqa: E402
 
 
@@ -34,9 +36,19 @@ def main() -> int:
                        help="yes: documents are edited in place, by WebDAV below /drive/")
     words.add_argument("--full", default="",
                        help="a file that is there while the room takes nothing more")
+    words.add_argument("--changes", default="", help="a folder with the journal of changes, to "
+                       "which nginx writes, and what is known by it")
+    words.add_argument("--dates", choices=("when", "who", ""), default="",
+                       help="what users are shown of changes: when they were, or also by whom")
+    words.add_argument("--told", default="", help="the beginning of the names of the files in "
+                       "which root tells what nginx doesn't")
+    words.add_argument("--days", type=int, default=0, help="how long names are kept; 0 keeps them")
     given = words.parse_args()
     try:
-        serve(given.room, given.listen, given.drive == "yes", given.full)
+        mark = os.path.join(os.path.dirname(given.listen), "dates")
+        keeper = begun(given.changes, given.dates, given.told, given.days, mark)
+        signal.signal(signal.SIGTERM, signal.default_int_handler)
+        serve(given.room, given.listen, given.drive == "yes", given.full, keeper)
     except KeyboardInterrupt:
         pass
     except OSError as fault:

@@ -3,6 +3,9 @@ from collections.abc import Callable
 from dataclasses import dataclass
 
 from ..room.answers import Answer, Stop
+from .changes.keeper import Keeper
+from .changes.latest import latest
+from .changes.listed import listed
 from .folders.archive import archive
 from .folders.below import below
 from .folders.closed import closed
@@ -14,7 +17,8 @@ from ..room.room import Room
 
 PREFIX = "/door/"
 # What may take long, each with its kind.
-LONG_ROUTES = {"below": "walk", "closed": "walk", "find": "walk", "goes": "walk", "zip": "zip"}
+LONG_ROUTES = {"below": "walk", "closed": "walk", "find": "walk", "folder": "walk", "goes": "walk",
+               "latest": "walk", "zip": "zip"}
 # Behind what a query may stand.
 _ASKING = ("below", "find", "goes", "zip")
 
@@ -31,6 +35,8 @@ class Asked:
     # The value of a field of the head, or nothing.
     field: Callable[[str], str]
     body: bytes
+    # None where no dates are kept.
+    keeper: Keeper | None
 
     def conditions(self) -> tuple[str, str]:
         return self.field("If-Match"), self.field("If-None-Match")
@@ -45,6 +51,14 @@ def _below(asked: Asked) -> Answer:
 
 def _closed(asked: Asked) -> Answer:
     return closed(asked.room, asked.user, asked.names)
+
+
+def _folder(asked: Asked) -> Answer:
+    return listed(asked.room, asked.user, asked.names, asked.keeper)
+
+
+def _latest(asked: Asked) -> Answer:
+    return latest(asked.room, asked.user, asked.names, asked.keeper)
 
 
 def _find(asked: Asked) -> Answer:
@@ -76,7 +90,8 @@ def _replace(asked: Asked) -> Answer:
 _MATCHED: dict[str, Route] = {"GET": _read, "HEAD": _tag, "PUT": _replace}
 ROUTES: dict[str, dict[str, Route]] = {
     "below": {"GET": _below}, "closed": {"GET": _closed}, "find": {"GET": _find},
-    "goes": {"GET": _goes}, "zip": {"GET": _zip},
+    "folder": {"GET": _folder}, "goes": {"GET": _goes}, "latest": {"GET": _latest},
+    "zip": {"GET": _zip},
     "doc": _MATCHED, "dacl": _MATCHED, "sacl": _MATCHED}
 
 

@@ -15,6 +15,7 @@ from ..room.answers import TEXT, Answer, Stop, reason
 from ..room.room import LARGEST, USER, Room
 from .routes import LONG_ROUTES, PREFIX, Asked, route_of
 from ..room.turns import Users
+from .changes.keeper import Keeper
 from .webdav.calls import Drive
 from .webdav.kept import Kept
 from .webdav.methods import LONG_METHODS, answer
@@ -29,12 +30,14 @@ _ABOVE = re.compile(r"(/[a-z0-9-]{1,32})?")
 
 
 class Door:
-    """A door may have no drive. `full` is the path of a file that is there while the room takes no
-    more."""
+    """A door may have no drive, and keep no dates. `full` is the path of a file that is there while
+    the room takes no more."""
 
-    def __init__(self, room: Room, drive: Drive | None = None, full: str = "") -> None:
+    def __init__(self, room: Room, drive: Drive | None = None, full: str = "",
+                 keeper: Keeper | None = None) -> None:
         self.room = room
         self.drive = drive
+        self.keeper = keeper
         self.users = Users()
         self._full = full
 
@@ -143,7 +146,7 @@ class Handler(http.server.BaseHTTPRequestHandler):
                               self._field, body)
             route, word, names, query = route_of(self.command, self.path)
             return route(Asked(self.door.room, user, self.command, word, names, query,
-                               self._field, body))
+                               self._field, body, self.door.keeper))
         except Stop as stop:
             return stop.answer(drive is not None)
         except OSError:
@@ -230,9 +233,16 @@ def opened(place: str, door: Door) -> Server:
     return Server(place, type("Opened", (Handler,), {"door": door}))
 
 
-def serve(room: str, listen: str, has_drive: bool, full: str) -> None:
+def serve(room: str, listen: str, has_drive: bool, full: str, keeper: Keeper | None) -> None:
     kept = os.path.join(os.path.dirname(listen), "locks")
     drive = Drive(Kept(kept), full) if has_drive else None
-    with opened(listen, Door(Room(room), drive, full)) as server:
+    asked = Room(room, note=keeper.note if keeper else None)
+    with opened(listen, Door(asked, drive, full, keeper)) as server:
+        if keeper:
+            threading.Thread(target=keeper.run, daemon=True).start()
         print(f"listening {listen}", file=sys.stderr, flush=True)
-        server.serve_forever()
+        try:
+            server.serve_forever()
+        finally:
+            if keeper:
+                keeper.stop()

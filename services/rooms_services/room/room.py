@@ -186,18 +186,36 @@ def ended() -> Stop:
     return Stop(502, "room-ended", "the room ended before it answered. Look whether it was done")
 
 
+# Told of each change before it is asked for, with nothing, and then with the status, which is 0
+# where no answer came.
+Note = Callable[[str, Ask, int | None], None]
+
+
 class Talk:
     """One connection, in the name of one user: each answer is waited for before more is sent."""
 
-    def __init__(self, at: socket.socket, user: str, most: int) -> None:
+    def __init__(self, at: socket.socket, user: str, most: int, note: Note | None = None) -> None:
         self._at = at
         self._user = user
         self._most = most
+        self._note = note
         self._lines = at.makefile("rb")
         # How many bytes the room has answered.
         self.taken = 0
 
     def ask(self, ask: Ask) -> Reply:
+        if ask.method == "GET" or self._note is None:
+            return self._asked(ask)
+        self._note(self._user, ask, None)
+        status = 0
+        try:
+            reply = self._asked(ask)
+            status = reply.status
+            return reply
+        finally:
+            self._note(self._user, ask, status)
+
+    def _asked(self, ask: Ask) -> Reply:
         self._at.sendall(ask.message(self._user))
         line = self._lines.readline(1024)
         if not line.startswith(b"HTTP/1.1 "):
@@ -295,12 +313,14 @@ def at_fault() -> Iterator[None]:
 
 class Room:
     def __init__(self, place: str, seconds: float = waits.ANSWER,
-                 most: int = MOST_ANSWERED) -> None:
-        """The path of a socket, how long an answer may take, and how many bytes it may have."""
+                 most: int = MOST_ANSWERED, note: Note | None = None) -> None:
+        """The path of a socket, how long an answer may take, how many bytes it may have, and who is
+        told of each change."""
         self.place = place
         self.seconds = seconds
         self.most = most
         self.denials = Denials()
+        self._note = note
         self._turn = InTurn()
 
     def take(self) -> None:
@@ -338,7 +358,7 @@ class Room:
                 at = self.connected()
                 with at:
                     at.settimeout(self.seconds)
-                    yield Talk(at, user, self.most)
+                    yield Talk(at, user, self.most, self._note)
         finally:
             self.give()
 

@@ -1,0 +1,58 @@
+"""What a private copy of a room has, for the door beside it (services/rooms_services/door/changes,
+nights): python3 -IB objects_of_copy.py COPY MOMENT
+
+It runs as the user of copies, by nobody else, since the file may be anything. It prints the moment,
+and that at which it looks; a line [number, number of the folder, name, length, sum] for each object
+below the root, a folder before what is in it; and how many there are. A folder has neither length
+nor sum; the sum is the first bytes of the SHA-256. Levels are gone through one by one: what moved
+may have a smaller number than its folder."""
+import contextlib
+import hashlib
+import json
+import signal
+import sqlite3
+import sys
+import time
+from collections.abc import Iterator
+
+# Bytes of a sum; and seconds, after which a file that was made to take long ends.
+SUM, SECONDS = 8, 1800
+
+
+def _objects(room: sqlite3.Connection) -> Iterator[tuple[object, ...]]:
+    roots = [row[0] for row in room.execute("SELECT id FROM nodes WHERE parent IS NULL")]
+    level = [(one, 0) for one in roots[:1]]
+    while level:
+        below = []
+        for folder, shown in level:
+            for number, name, is_folder in room.execute(
+                    "SELECT id, name, kind FROM nodes WHERE parent = ?", (folder,)).fetchall():
+                if is_folder:
+                    below.append((number, number))
+                    yield number, shown, name, None, None
+                else:
+                    yield number, shown, name, *_measured(room, number)
+        level = below
+
+
+def _measured(room: sqlite3.Connection, number: int) -> tuple[int, str]:
+    row = room.execute("SELECT bytes FROM bodies WHERE node = ?", (number,)).fetchone()
+    body = bytes(row[0]) if row else b""
+    return len(body), hashlib.sha256(body).hexdigest()[:2 * SUM]
+
+
+def main() -> None:
+    signal.alarm(SECONDS)
+    count = 0
+    with contextlib.closing(sqlite3.connect(sys.argv[1])) as room:
+        # What the file says of its own tables runs no function of SQLite's.
+        room.execute("PRAGMA trusted_schema = OFF")
+        print(int(sys.argv[2]), int(time.time() * 1000))
+        for row in _objects(room):
+            count += 1
+            print(json.dumps(row))
+    print(count)
+
+
+if __name__ == "__main__":
+    main()

@@ -1,0 +1,382 @@
+"""What is known of each object, as a tree in tables of SQLite's: a folder that moves is one row.
+
+Nothing of what was removed is kept, nor what somebody did before the last change."""
+import sqlite3
+import time
+from typing import NamedTuple
+
+from ...room.paths import Names
+
+ROOT = 0
+# What is remembered of the last list of a night that was taken whole, which is its moment, and when
+# it was last that a change may not have been seen, both in milliseconds.
+COPY, GAP = "copy", "gap"
+# A date that is this far in the future, in milliseconds, is that of a clock that was wrong.
+AHEAD = 300_000
+# How many folders are remembered by their paths.
+REMEMBERED = 20_000
+# Of the tables: another one begins with nothing.
+VERSION = 1
+_TABLES = f"""
+CREATE TABLE IF NOT EXISTS node(id INTEGER PRIMARY KEY, up INTEGER NOT NULL, name TEXT NOT NULL,
+  folder INTEGER NOT NULL, size INTEGER, at INTEGER, who INTEGER, before INTEGER, sum BLOB,
+  moved INTEGER, night INTEGER, copied INTEGER, UNIQUE(up, name)) STRICT;
+CREATE INDEX IF NOT EXISTS node_folder ON node(up, name) WHERE folder = 1;
+CREATE INDEX IF NOT EXISTS node_at ON node(up, at) WHERE folder = 0 AND at IS NOT NULL;
+CREATE TABLE IF NOT EXISTS who(id INTEGER PRIMARY KEY, name TEXT NOT NULL UNIQUE) STRICT;
+CREATE TABLE IF NOT EXISTS told(what TEXT PRIMARY KEY, value TEXT NOT NULL) STRICT;
+CREATE TABLE IF NOT EXISTS begun(line BLOB NOT NULL) STRICT;
+CREATE TABLE IF NOT EXISTS taken(ino INTEGER PRIMARY KEY, upto INTEGER NOT NULL) STRICT;
+PRAGMA user_version = {VERSION};
+"""
+
+
+class Known(NamedTuple):
+    """`at` in milliseconds; `before` says that it changed at some moment before that one."""
+    is_folder: bool
+    size: int | None
+    at: int | None
+    who: str | None
+    before: int | None
+
+
+class Newest(NamedTuple):
+    id: int
+    name: str
+    known: Known
+
+
+class Inside(NamedTuple):
+    """A folder in a folder."""
+    id: int
+    name: str
+
+
+class By(NamedTuple):
+    """When something was done, in milliseconds, and by whom."""
+    at: int
+    user: str
+
+
+class OfCopy(NamedTuple):
+    """An object of a night's copy, by its numbers there; the folder `up` came before it."""
+    number: int
+    up: int
+    name: str
+    is_folder: bool
+    size: int | None
+    sum: bytes | None
+
+
+class AtNight(NamedTuple):
+    """What is compared with it: `at` is 0 if no moment is known."""
+    id: int
+    folder: int
+    size: int | None
+    at: int
+    is_undated: int
+    sum: bytes | None
+
+
+def _ahead() -> int:
+    return int(time.time() * 1000) + AHEAD
+
+
+class Store:
+    """For one thread at a time. Where no names are shown, none is kept."""
+
+    def __init__(self, file: str, has_names: bool) -> None:
+        self._has_names = has_names
+        self._folders: dict[Names, int] = {}
+        self._users: dict[str, int] = {}
+        self._db = sqlite3.connect(file, check_same_thread=False, isolation_level=None)
+        try:
+            self._prepare()
+        except BaseException:
+            self._db.close()
+            raise
+
+    def _prepare(self) -> None:
+        self._db.execute("PRAGMA journal_mode=WAL")
+        # What a power cut takes is read again, from the place in the journal that is left.
+        self._db.execute("PRAGMA synchronous=NORMAL")
+        self._db.execute("PRAGMA cache_size=-8000")
+        # What was known of what is removed isn't left in the file.
+        self._db.execute("PRAGMA secure_delete=ON")
+        if self._db.execute("PRAGMA user_version").fetchone()[0] not in (0, VERSION):
+            raise sqlite3.DatabaseError("it is of another version")
+        self._db.executescript(_TABLES)
+        if not self._has_names:
+            self._db.execute("UPDATE node SET who = NULL WHERE who IS NOT NULL")
+            self._db.execute("DELETE FROM who")
+            self.settle()
+        self.count()
+
+    def close(self) -> None:
+        self._db.close()
+
+    def begin(self) -> None:
+        self._db.execute("BEGIN IMMEDIATE")
+
+    def commit(self) -> None:
+        self._db.execute("COMMIT")
+
+    def give_up(self) -> None:
+        self.give_up_remembered()
+        if self._db.in_transaction:
+            self._db.execute("ROLLBACK")
+
+    def settle(self) -> None:
+        """All of it is on the disk, and what was removed is in no file any more."""
+        busy, _, _ = self._db.execute("PRAGMA wal_checkpoint(TRUNCATE)").fetchone()
+        if busy:
+            raise sqlite3.OperationalError("somebody else reads it")
+
+    # How far files were read
+
+    def taken(self) -> dict[int, int]:
+        return dict(self._db.execute("SELECT ino, upto FROM taken"))
+
+    def take(self, ino: int, upto: int) -> None:
+        self._db.execute("INSERT OR REPLACE INTO taken VALUES(?, ?)", (ino, upto))
+
+    def untake(self, ino: int) -> None:
+        self._db.execute("DELETE FROM taken WHERE ino = ?", (ino,))
+
+    def begun(self) -> bytes:
+        """The line of what a door has begun and not ended, or nothing."""
+        row = self._db.execute("SELECT line FROM begun").fetchone()
+        return bytes(row[0]) if row else b""
+
+    def keep_begun(self, line: bytes) -> None:
+        self._db.execute("DELETE FROM begun")
+        if line:
+            self._db.execute("INSERT INTO begun VALUES(?)", (line,))
+
+    def told(self, what: str) -> str:
+        """What was taken last of what root tells, or nothing."""
+        row = self._db.execute("SELECT value FROM told WHERE what = ?", (what,)).fetchone()
+        return str(row[0]) if row else ""
+
+    def keep_told(self, what: str, value: str) -> None:
+        self._db.execute("INSERT OR REPLACE INTO told VALUES(?, ?)", (what, value))
+
+    # Rows
+
+    def find(self, names: Names) -> int | None:
+        """What is known at a path; folders are remembered until one of them moves or goes."""
+        if not names:
+            return ROOT
+        known = self._folders.get(names)
+        if known is not None:
+            return known
+        above = self.find(names[:-1])
+        if above is None:
+            return None
+        row = self._db.execute("SELECT id, folder FROM node WHERE up = ? AND name = ?",
+                               (above, names[-1])).fetchone()
+        if row and row[1]:
+            if len(self._folders) > REMEMBERED:
+                self._folders.clear()
+            self._folders[names] = row[0]
+        return row[0] if row else None
+
+    def is_folder(self, names: Names) -> bool:
+        """Of what was found at this path."""
+        return not names or names in self._folders
+
+    def folder(self, names: Names) -> int:
+        """The folder at this path, which the room has, so that it is made here if it lacks."""
+        found = self.find(names)
+        if found is not None and self.is_folder(names):
+            return found
+        above = self.folder(names[:-1])
+        if found is not None:
+            self.drop(found)
+        return self._db.execute("INSERT INTO node(up, name, folder) VALUES(?, ?, 1)",
+                                (above, names[-1])).lastrowid or ROOT
+
+    def drop(self, one: int) -> None:
+        """With all that is below it: in the room nothing is, but a line may have been lost."""
+        self._folders.clear()
+        self._db.execute("WITH RECURSIVE below(id) AS (VALUES(?) UNION ALL SELECT node.id FROM "
+                         "node, below WHERE node.up = below.id) DELETE FROM node WHERE id IN below",
+                         (one,))
+
+    def move(self, one: int, above: int, name: str, at: int) -> None:
+        self._folders.clear()
+        self._db.execute("UPDATE node SET up = ?, name = ?, moved = ? WHERE id = ?",
+                         (above, name, at, one))
+
+    def put(self, above: int, name: str, is_folder: bool, size: int | None, by: By) -> None:
+        self._db.execute(
+            "INSERT INTO node(up, name, folder, size, at, who) VALUES(?1, ?2, ?3, ?4, ?5, ?6) "
+            "ON CONFLICT(up, name) DO UPDATE SET folder = ?3, size = ?4, at = ?5, who = ?6, "
+            "before = NULL, sum = NULL, copied = NULL",
+            (above, name, int(is_folder), size, by.at, self._user(by.user)))
+
+    def size(self, above: int, name: str) -> int | None:
+        row = self._db.execute("SELECT size FROM node WHERE up = ? AND name = ?",
+                               (above, name)).fetchone()
+        return row[0] if row else None
+
+    def touch(self, folder: int, by: By) -> None:
+        """A name came or went."""
+        self._db.execute("UPDATE node SET at = ?, who = ?, before = NULL WHERE id = ?",
+                         (by.at, self._user(by.user), folder))
+
+    def unsure(self, one: int) -> None:
+        """It may have changed: nothing is told of it until it changes again."""
+        self._db.execute("UPDATE node SET size = NULL, at = NULL, who = NULL, before = NULL, "
+                         "sum = NULL, copied = NULL WHERE id = ?", (one,))
+
+    def doubt(self, at: int, top: int = ROOT) -> None:
+        """Each at or below this one may have changed until then; what changed later has."""
+        self._db.execute(
+            "WITH RECURSIVE below(id) AS (VALUES(?) UNION ALL SELECT node.id FROM node, below "
+            "WHERE node.up = below.id) UPDATE node SET at = NULL, who = NULL, size = NULL, "
+            "sum = NULL, copied = NULL, before = iif(folder, NULL, ?) "
+            "WHERE id IN below AND coalesce(at, 0) <= ?", (top, at, at))
+
+    def go_back(self, at: int) -> None:
+        """The room is what it was at that moment, or nobody knows at which, where that is 0."""
+        self.give_up_remembered()
+        self._db.execute("DELETE FROM begun")
+        self._db.execute(
+            "WITH RECURSIVE later(id) AS (SELECT id FROM node WHERE moved >= ?1 UNION "
+            "SELECT node.id FROM node, later WHERE node.up = later.id) "
+            "DELETE FROM node WHERE id IN later OR ?1 = 0", (at,))
+        self._db.execute(
+            "UPDATE node SET at = NULL, who = NULL, size = NULL, sum = NULL, "
+            "before = iif(folder, NULL, ?1) WHERE at >= ?1 OR before >= ?1", (at,))
+        self._db.execute("UPDATE node SET copied = NULL")
+        self.forget_unused()
+
+    def give_up_remembered(self) -> None:
+        self._folders.clear()
+        self._users.clear()
+
+    # Names
+
+    def _user(self, name: str) -> int | None:
+        if not self._has_names:
+            return None
+        known = self._users.get(name)
+        if known is None:
+            self._db.execute("INSERT OR IGNORE INTO who(name) VALUES(?)", (name,))
+            known = self._users[name] = int(self._db.execute(
+                "SELECT id FROM who WHERE name = ?", (name,)).fetchone()[0])
+        return known
+
+    def forget(self, user: str, until: int) -> None:
+        """Who did what until then, in milliseconds, by this name."""
+        self._db.execute("UPDATE node SET who = NULL WHERE at <= ? AND "
+                         "who = (SELECT id FROM who WHERE name = ?)", (until, user))
+        self.forget_unused()
+
+    def forget_old(self, until: int) -> None:
+        self._db.execute("UPDATE node SET who = NULL WHERE at <= ? AND who IS NOT NULL", (until,))
+        self.forget_unused()
+
+    def forget_unused(self) -> None:
+        """Names of those who changed nothing last."""
+        self._users.clear()
+        self._db.execute("DELETE FROM who WHERE id NOT IN (SELECT who FROM node "
+                         "WHERE who IS NOT NULL)")
+
+    # Nights
+
+    def is_known_folder(self, one: int) -> bool:
+        return one == ROOT or bool(self._db.execute(
+            "SELECT 1 FROM node WHERE id = ? AND folder = 1", (one,)).fetchone())
+
+    def at_night(self, up: int, name: str) -> AtNight | None:
+        row = self._db.execute("SELECT id, folder, size, coalesce(at, 0), at IS NULL, sum "
+                               "FROM node WHERE up = ? AND name = ?", (up, name)).fetchone()
+        return AtNight(*row) if row else None
+
+    def add_at_night(self, up: int, one: OfCopy, night: int) -> int:
+        return self._db.execute(
+            "INSERT INTO node(up, name, folder, size, before, sum, night, copied) "
+            "VALUES(?,?,?,?,?,?,?,?)",
+            (up, one.name, int(one.is_folder), one.size, None if one.is_folder else night,
+             one.sum, night, one.number)).lastrowid or ROOT
+
+    def note_night(self, one: int, night: int, copied: int | None) -> None:
+        self._db.execute("UPDATE node SET night = ?, copied = ? WHERE id = ?",
+                         (night, copied, one))
+
+    def set_at_night(self, one: int, size: int | None, total: bytes | None) -> None:
+        self._db.execute("UPDATE node SET size = ?, sum = ? WHERE id = ?", (size, total, one))
+
+    def changed_before(self, one: int, night: int) -> None:
+        """Nobody told of it."""
+        self._db.execute("UPDATE node SET at = NULL, who = NULL, before = ? WHERE id = ?",
+                         (night, one))
+
+    def known_before(self, one: int, night: int) -> None:
+        self._db.execute("UPDATE node SET before = coalesce(before, ?) WHERE id = ?", (night, one))
+
+    def drop_gone(self, night: int) -> None:
+        """What the copy of that night didn't have, unless it changed or moved since, or came to its
+        place with a folder that did, or has something in it that is kept."""
+        self.give_up_remembered()
+        self._db.execute(
+            "WITH RECURSIVE later(id) AS (SELECT id FROM node WHERE moved > ?1 UNION "
+            "SELECT node.id FROM node, later WHERE node.up = later.id), "
+            "kept(id) AS (SELECT id FROM node WHERE night = ?1 OR at > ?1 OR id IN later UNION "
+            "SELECT node.up FROM node, kept WHERE node.id = kept.id) "
+            "DELETE FROM node WHERE id NOT IN kept", (night,))
+
+    def in_copy(self, names: Names) -> int | None:
+        """The number that an object has in the copy of the last night whose list was taken whole;
+        None of what is new or changed since."""
+        found = self.find(names)
+        row = self._db.execute("SELECT copied FROM node WHERE id = ? AND night = ?",
+                               (found, self.told(COPY))).fetchone() if found else None
+        return row[0] if row else None
+
+    def vouched(self) -> int | None:
+        """The moment of that copy, if each change since then is known."""
+        copy, gap = int(self.told(COPY) or 0), int(self.told(GAP) or 0)
+        return copy if copy > gap else None
+
+    def drop_ahead(self) -> None:
+        """Dates of a clock that was wrong."""
+        self._db.execute("UPDATE node SET at = NULL, who = NULL WHERE at > ?", (_ahead(),))
+
+    # What is asked
+
+    def children(self, names: Names) -> dict[str, Known]:
+        """Of what something is known."""
+        folder, now = self.find(names), _ahead()
+        return {name: _known(is_folder, size, at, who, before, now)
+                for name, is_folder, size, at, who, before in self._db.execute(
+                    "SELECT node.name, folder, size, at, who.name, before FROM node LEFT JOIN who "
+                    "ON who.id = node.who WHERE up = ? AND "
+                    "(size IS NOT NULL OR at IS NOT NULL OR before IS NOT NULL)", (folder,))}
+
+    def folders(self, above: int) -> list[Inside]:
+        return [Inside(one, name) for one, name in self._db.execute(
+            "SELECT id, name FROM node WHERE up = ? AND folder = 1 ORDER BY name", (above,))]
+
+    def newest(self, folder: int, after: tuple[int, int] | None, most: int) -> list[Newest]:
+        """The documents in a folder, from the newest on, behind that moment and number."""
+        now = _ahead()
+        at, last = after or (now, 0)
+        return [Newest(one, name, _known(0, size, when, who, None, now))
+                for one, name, size, when, who in self._db.execute(
+                    "SELECT node.id, node.name, size, at, who.name FROM node LEFT JOIN who "
+                    "ON who.id = node.who WHERE up = ? AND folder = 0 AND at IS NOT NULL AND "
+                    "(at, node.id) < (?, ?) ORDER BY at DESC, node.id DESC LIMIT ?",
+                    (folder, at, last, most))]
+
+    def count(self) -> int:
+        return int(self._db.execute("SELECT count(*) FROM node").fetchone()[0])
+
+
+def _known(folder: int, size: int | None, at: int | None, who: str | None, before: int | None,
+           now: int) -> Known:
+    if at is not None and at > now:
+        return Known(bool(folder), size, None, None, None)
+    return Known(bool(folder), size, at, who, before)
