@@ -1,9 +1,12 @@
 """A door that keeps dates, over a room in memory, and the journal that nginx writes."""
 import json
 import os
+import unittest
+from unittest import mock
 
 from over import Over
 from rooms_services.door.ask.room import Room
+from rooms_services.door.changes import keeper
 from rooms_services.door.changes.keeper import Keeper
 
 NOW = 1764471720.5
@@ -18,11 +21,19 @@ def line(user: str, method: str, target: str, status: int = 204, length: object 
                       separators=(",", ":"), ensure_ascii=False).encode("latin-1") + b"\n"
 
 
+def patient(case: unittest.TestCase) -> None:
+    """A machine that is busy may take long for a line."""
+    patch = mock.patch.object(keeper, "PATIENCE", 60.0)
+    patch.start()
+    case.addCleanup(patch.stop)
+
+
 class Dated(Over):
     keeper: Keeper
 
     def setUp(self) -> None:
         super().setUp()
+        patient(self)
         self.room.make(f=None, f__a=b"one", f__b=b"two", f__g=None, f__g__c=b"three")
         os.mkdir(self.at("changes"))
         self.begin("who")

@@ -122,6 +122,9 @@ moved 204 '{"to":"/h/\u00fc\ud83d\ude00"}'
 moved 400 $'{"to":"/h/n5"}\n{"v":1,"t":1,"u":"root","m":"PUT","p":"/doc/h/n5","s":"204","n":"7"}'
 printf -v long '%20000s' x
 moved 204 "{\"to\":\"/h/n4\",\"pad\":\"$long\"}"
+began=$SECONDS
+until [ "$(curl -s -o /dev/null -w '%{http_code}' -u alice:a "$base/door/latest/")" = 200 ] ||
+  [ $((SECONDS - began)) -ge 20 ]; do sleep 0.2; done
 curl -s -u alice:a "$base/door/folder/h" >got
 python3 - got >seen <<'END'
 import json, sys

@@ -5,7 +5,7 @@ import os
 import random
 import unittest
 
-from dated_door import NOW, line
+from dated_door import NOW, line, patient
 from over import Over
 from rooms_services.door.ask.room import Room
 from rooms_services.door.changes.keeper import Keeper
@@ -15,6 +15,10 @@ BARS = ("x", "xr", "xt", "xrt")
 
 
 class Pair(Over):
+    def setUp(self) -> None:
+        super().setUp()
+        patient(self)
+
     def begin(self, name: str) -> None:
         """Another room and another door's files, at the same addresses."""
         keeper = Keeper(self.made(name), "who")

@@ -7,7 +7,7 @@ import unittest
 from unittest import mock
 
 from dated_door import NOW, Dated, Row, line
-from rooms_services.door.changes import nights
+from rooms_services.door.changes import keeper, nights
 from rooms_services.door.changes.keeper import Keeper
 from rooms_services.door.changes.store import Store
 
@@ -83,7 +83,9 @@ class Nights(Dated):
             asked.append(len(self.rows()))
             self.add(line("eve", "PUT", f"/doc/f/d{len(asked) * 10 - 10}", 204, 7, at=NOW + 60))
             return take(night, store)
-        with mock.patch.object(nights.Night, "take", taking):
+        # (who asks meanwhile waits for no longer than this)
+        with mock.patch.object(nights.Night, "take", taking), \
+                mock.patch.object(keeper, "PATIENCE", 0.2):
             self.keeper.take_night()
         self.assertEqual(len(asked), 5)
         self.room.make(**{f"f__d{number}": b"1" for number in (10, 20, 30, 40, 3009)})

@@ -161,9 +161,9 @@ class Keeper:
 
     # The journal
 
-    def catch_up(self, seconds: float = PATIENCE) -> bool:
+    def catch_up(self, seconds: float = 0.0) -> bool:
         """Whether all of it is taken."""
-        until = time.monotonic() + seconds
+        until = time.monotonic() + (seconds or PATIENCE)
         while time.monotonic() < until:
             try:
                 with self._alone():
