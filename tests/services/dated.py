@@ -21,6 +21,7 @@ from urllib.parse import quote
 from lab import PATIENCE, SERVICES, connected
 
 Path = tuple[str, ...]
+Span = tuple[float, float]
 PIECES = ["a", "b", "Z", "ä", '"', "\\", "%", "%2", "%41", "#", "?", " ", '{"v":1,"t":1,',
           '","u":"root', "\u202e", "\U0001f600", "'", "&", "<b>", "+", "\u2028", "é", "e\u0301",
           "~", "|", ":", "*", "CON", "..x", "\\u0022"]
@@ -68,19 +69,21 @@ class Known:
     """What the replies said."""
 
     def __init__(self, top: Path, user: str) -> None:
-        # Size, user, moment; of folders the size is 0, and the moment that of their names.
-        self.documents: dict[Path, tuple[int, str, float]] = {}
-        self.folders: dict[Path, tuple[str, float]] = {top: (user, time.time())}
+        # Between which moments it was asked and answered, by a busy machine.
+        self.span: Span = (time.time() - 60, time.time())
+        # Size, user, moments; of folders those of their names.
+        self.documents: dict[Path, tuple[int, str, Span]] = {}
+        self.folders: dict[Path, tuple[str, Span]] = {top: (user, self.span)}
 
     def touch(self, user: str, *places: Path) -> None:
         for place in places:
             if place[:-1] in self.folders:
-                self.folders[place[:-1]] = user, time.time()
+                self.folders[place[:-1]] = user, self.span
 
     def put(self, path: Path, size: int, user: str) -> None:
         if path not in self.documents:
             self.touch(user, path)
-        self.documents[path] = size, user, time.time()
+        self.documents[path] = size, user, self.span
 
     def move(self, path: Path, to: Path, user: str) -> None:
         for one in [one for one in self.documents if one[:len(path)] == path]:
@@ -97,8 +100,8 @@ class Play:
         self.door = door
         self.top: Path = (f"random{seed}",)
         self.said: Counter[str] = Counter()
-        assert self.ask("root", "POST", "/folder/", self.top)[0] == 201
         self.known = Known(self.top, "root")
+        assert self.ask("root", "POST", "/folder/", self.top)[0] == 201
 
     def ask(self, user: str, method: str, before: str, path: Path, body: bytes = b"",
             **fields: str) -> tuple[int, bytes]:
@@ -106,6 +109,7 @@ class Play:
         key = base64.b64encode(f"{user}:{user[0]}".encode()).decode()
         given = {name.replace("_", "-"): text for name, text in fields.items()}
         while True:
+            began = time.time()
             at = http.client.HTTPConnection("127.0.0.1", self.front, timeout=2 * PATIENCE)
             # (as it is: Python's own client escapes nothing, and takes bytes)
             at.putrequest(method, target, skip_accept_encoding=True)
@@ -118,6 +122,7 @@ class Play:
             at.close()
             if told[0] != 429:
                 self.said[f"{method} {before[:6]} {told[0]}"] += 1
+                self.known.span = began, time.time()
                 return told
             time.sleep(0.2)
 
@@ -155,13 +160,13 @@ class Play:
             more = self.chance.randint(0, 50)
             if self.ask(user, "POST", "/doc/", path, b"x" * more)[0] == 204:
                 size = self.known.documents[path][0] + more
-                self.known.documents[path] = size, user, time.time()
+                self.known.documents[path] = size, user, self.known.span
 
     def make(self, user: str) -> None:
         path = (*self.folder(), self.name())
         if len(self.known.folders) < FOLDERS \
                 and self.ask(user, "POST", "/folder/", path)[0] == 201:
-            self.known.folders[path] = user, time.time()
+            self.known.folders[path] = user, self.known.span
             self.known.touch(user, path)
 
     def remove(self, user: str) -> None:
@@ -217,18 +222,18 @@ class Play:
             for row in json.loads(body)["rows"]:
                 seen += 1
                 path = (*folder, row["name"])
-                size, user, at = self.known.documents[path] if row["kind"] == "document" \
+                size, user, span = self.known.documents[path] if row["kind"] == "document" \
                     else (None, *self.known.folders[path])
                 if row.get("size") != size or row.get("who") != user \
-                        or abs(row.get("when", 0) - at) > 2:
-                    found.append(f"{path}: {row}, not {size} {user} {at:.0f}")
+                        or not span[0] - 2 < row.get("when", 0) < span[1] + 2:
+                    found.append(f"{path}: {row}, not {size} {user} {span}")
         if seen != len(self.known.documents) + len(self.known.folders) - 1:
             found.append(f"{seen} objects")
         return found + self.wrong_latest()
 
     def wrong_latest(self) -> list[str]:
         told = json.loads(self.ask("root", "GET", "/door/latest/", self.top)[1])["found"]
-        wanted = sorted(((at, "/" + "/".join(path)) for path, (_, _, at)
+        wanted = sorted(((span[0], "/" + "/".join(path)) for path, (_, _, span)
                          in self.known.documents.items()), reverse=True)
         moments = [row["when"] for row in told]
         # (what is as new as the last one may be there or not)
