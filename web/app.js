@@ -14,6 +14,7 @@ import { showDocument } from './folder/preview.js';
 import { language, texts } from './language/language.js';
 import { linkTo, pathLinks, whereIs } from './ui/links.js';
 import { showList } from './advanced/list_view.js';
+import { keepClear } from './ui/covering.js';
 import { clearNotices, notShown, showWaiting, tellFault, waitFor } from './ui/messages.js';
 import { arrived, fullName, people } from './net/directory.js';
 import { kindOf, showRights } from './advanced/my_rights.js';
@@ -131,6 +132,7 @@ document.getElementById('skip').addEventListener('click', (event) => {
   main.focus();
 });
 speak();
+keepClear(document.getElementById('notices'), document.getElementById('uploads'));
 whenWaiting(showWaiting);
 showMe();
 show();

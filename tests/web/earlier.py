@@ -10,9 +10,17 @@ import sys
 import urllib.request
 import zipfile
 
+from selenium.webdriver.common.keys import Keys
+
 sys.path.insert(0, os.path.dirname(os.path.realpath(__file__)))
 from browser import Browser, Checks  # noqa: E402
 
+# What is wider than a window of so many pixels.
+WIDER = """
+return [...document.querySelectorAll('body *')].filter((one) => one.checkVisibility()
+  && !one.closest('.unseen, .skip') && one.getBoundingClientRect().right > arguments[0] + 0.5)
+  .map((one) => one.outerHTML.slice(0, 90));
+"""
 ONE, TWO = '2026-11-01.030000', '2026-11-02.030000'
 
 
@@ -75,6 +83,44 @@ class Nights:
         assert [one.split(' ')[1] for one in days] == ['2', '1'], days
         assert bob.unnamed() == [], bob.unnamed()
 
+    def on_a_telephone(self):
+        """Names, what is there now and both buttons, also at 320 px and at 200 %."""
+        bob = self.bob
+        for width in (320, 390, 640, 830):
+            bob.resize(width, 800)
+            wide = bob.script(WIDER, width)
+            assert wide == [], (width, wide)
+            rows = bob.script("""
+                return [...document.querySelectorAll('table.then tr[data-path]')].map((row) => {
+                  const box = (css) => row.querySelector(css).getBoundingClientRect();
+                  const line = 1.5 * parseFloat(getComputedStyle(row).fontSize);
+                  return [box('.name').height / line, box('.now').width, box('.now').height / line,
+                    [...row.querySelectorAll('button')].map((one) => one.innerText)];
+                });""")
+            assert len(rows) == 4, rows
+            for name, wide, now, buttons in rows:
+                assert name < 2.2 and wide > 100 and now < 2.5, (width, rows)
+                assert buttons in ([], ['Get', 'Put back']), buttons
+        bob.resize(1200, 900)
+
+    def by_keys(self):
+        """The list is one stop of the Tab key; arrow keys go to what can be pressed."""
+        bob = self.bob
+        stops = bob.script("return [...document.querySelectorAll('table.then :is(a, button)')]"
+                           '.filter((one) => one.tabIndex === 0).map((one) => one.ariaLabel)')
+        assert len(stops) == 1, stops
+        focus = ("const one = document.activeElement; return [one.dataset.act, "
+                 "one.closest('tr')?.querySelector('.name').textContent]")
+        bob.script("document.querySelector('[data-act=open]').focus()")
+        for key, wanted in ((Keys.ARROW_RIGHT, ['get', 'tender']),
+                            (Keys.ARROW_RIGHT, ['back', 'tender']),
+                            (Keys.ARROW_UP, ['back', 'reply.txt']),
+                            (Keys.HOME, ['back', 'kept.txt']), (Keys.END, ['back', 'tender']),
+                            # Of what came later nothing comes back.
+                            (Keys.ARROW_DOWN, ['back', 'tender'])):
+            bob.type(key)
+            assert bob.script(focus) == wanted, (bob.script(focus), wanted)
+
     def is_not_seen(self):
         """Who only reads sees neither it nor its name; who manages the folder does."""
         self.eve.open('#/letters?earlier')
@@ -126,7 +172,7 @@ class Nights:
         bob = self.bob
         bob.open('#/letters')
         bob.act('Earlier', 'reply.txt')
-        bob.says('There is another one now.', css='main [role=status]')
+        bob.says('There is another one now.', css='main .compared')
         bob.press('Get reply.txt as it was')
         assert bob.downloaded('reply.txt') == b'Dear Sirs'
         bob.press('Put reply.txt back')
@@ -134,7 +180,7 @@ class Nights:
         assert '1 document is still there: replaced, what is in it now is lost' in said, said
         bob.press('Replace what is there', 'dialog')
         bob.says('1 object put back')
-        bob.says('It is the same now.', css='main [role=status]')
+        bob.says('It is the same now.', css='main .compared')
         assert self.read('letters/reply.txt') == 'Dear Sirs'
 
     def made_meanwhile(self):
@@ -220,6 +266,7 @@ def main():
             play = Nights(start, base)
             for name, act in (
                     ('a folder is removed', play.removed), ('what was there', play.is_seen),
+                    ('on a telephone', play.on_a_telephone), ('by keys', play.by_keys),
                     ('who sees it', play.is_not_seen), ('it comes back', play.comes_back),
                     ('a part of it', play.a_part_of_it),
                     ('what was replaced', play.replaced),

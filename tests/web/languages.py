@@ -139,7 +139,7 @@ class Languages:
     def take_away(self):
         alice = self.alice
         alice.script("""const one = [...document.querySelectorAll('.holders select')]
-            .find((each) => each.getAttribute('aria-label').includes('bob'));
+            .find((each) => each.getAttribute('aria-label').includes('Bob Lindqvist'));
             one.value = 'gone'; one.dispatchEvent(new Event('change'))""")
         alice.until(lambda: alice.all('dialog'), 'a question')
         self.fits()

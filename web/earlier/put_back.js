@@ -117,13 +117,13 @@ export async function putBack(night, object) {
 
 // The buttons of an object of then.
 export function actsOf(night, object, name, redraw) {
-  const act = (label, title, does) => element('button', {
-    type: 'button', class: 'small', 'aria-label': title,
+  const act = (word, label, title, does) => element('button', {
+    type: 'button', class: 'small', 'aria-label': title, 'data-act': word,
     onclick: () => does().catch(tellNightFault),
   }, label);
   return [
-    act(texts.earlier.get, texts.earlier.getOf(name), () => get(night, object)),
-    act(texts.earlier.putBack, texts.earlier.putBackOf(name), async () => {
+    act('get', texts.earlier.get, texts.earlier.getOf(name), () => get(night, object)),
+    act('back', texts.earlier.putBack, texts.earlier.putBackOf(name), async () => {
       if (await putBack(night, object)) redraw();
     })];
 }

@@ -109,7 +109,7 @@ function tools(look, does, redraw, found) {
   const finding = finder(found.path, filter, { ...found, redraw });
   const shown = element('div', { class: 'tools' },
     element('div', { class: 'finding' }, filter, finding.press), chosen);
-  return { shown, tell };
+  return { shown, tell, filter };
 }
 
 // Where the focus is in the rows: {name, act, index}, or null.
@@ -168,6 +168,7 @@ class FolderView {
       move: (child) => this.doing(() => acts.move(path(child), child.kind)),
       remove: (children) => this.doing(() => acts.remove(this.objects(children))),
       copy: (child) => this.doing(() => acts.copyLink(path(child))),
+      find: () => this.tools.filter.focus(),
     };
   }
 

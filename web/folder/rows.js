@@ -41,6 +41,7 @@ function pickBox(child, look, changed) {
   box.addEventListener('change', () => {
     if (box.checked) look.chosen.add(child.name);
     else look.chosen.delete(child.name);
+    box.closest('tr').setAttribute('aria-selected', String(box.checked));
     changed();
   });
   return box;
@@ -77,7 +78,8 @@ function actsOf(child, path, acts) {
 
 function row(child, folder, look, acts, changed) {
   const path = api.join(folder, child.name);
-  const made = element('tr', { 'data-kind': child.kind, 'data-path': path },
+  const made = element('tr', { 'data-kind': child.kind, 'data-path': path,
+    'aria-label': marked(child.name), 'aria-selected': String(look.chosen.has(child.name)) },
     element('td', { class: 'pick' }, pickBox(child, look, changed)),
     element('td', { class: 'what' }, nameOf(child, path, acts)),
     element('td', { class: 'kind' }, kindWords(child)),
@@ -157,7 +159,10 @@ export function drawRows(body, folder, look, acts, onChosen, focusOn = null, wan
     const chosen = chosenOf(look);
     acts.remove(chosen.length > 0 ? chosen : [child]);
   };
-  rove(rows, { F2: ofRow(acts.move), Delete: ofRow(remove), End: () => growTo(shown.length) });
+  // A single sign means something only while the focus is in the rows: who speaks to the machine
+  // sets off nothing elsewhere.
+  rove(rows, { F2: ofRow(acts.move), Delete: ofRow(remove), End: () => growTo(shown.length),
+    '/': acts.find });
   onChosen();
   focusOn?.(table)?.focus();
 }

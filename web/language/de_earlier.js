@@ -26,7 +26,8 @@ export const DE_EARLIER = {
   putBackOf: (name) => `${name} zurücklegen`,
   putBackMissing: 'Zurücklegen, was fehlt',
   headings: ['Name', 'Art', 'Jetzt', 'Was man tun kann'],
-  caption: 'Was in dieser Nacht in diesem Ordner war, und was jetzt da ist.',
+  caption: 'Was in dieser Nacht in diesem Ordner war, und was jetzt da ist.'
+    + ' Die Pfeiltasten gehen von Zeile zu Zeile.',
   still: 'noch da',
   anotherKind: 'etwas anderes hat diesen Namen',
   goneNow: 'nicht mehr da',

@@ -122,6 +122,7 @@ const objectsIn = (names, isFolder) =>
 export const DE_MOVING = {
   into: (place) => ['In ', place],
   above: 'Der übergeordnete Ordner',
+  noFolders: 'Keine Ordner darin.',
   folder: 'Ordner',
   folders: 'Ordner',
   renameFolder: 'Den Ordner umbenennen oder verschieben',

@@ -26,7 +26,8 @@ export const EN_EARLIER = {
   putBackOf: (name) => `Put ${name} back`,
   putBackMissing: 'Put back what is missing',
   headings: ['Name', 'Kind', 'Now', 'What can be done'],
-  caption: 'What was in this folder that night, and what is there now.',
+  caption: 'What was in this folder that night, and what is there now.'
+    + ' The arrow keys go from row to row.',
   // What is there now of a row.
   still: 'still there',
   anotherKind: 'something else has this name',

@@ -120,6 +120,7 @@ const INSIDE = ' and what is in it, apart from what is protected';
 export const EN_MOVING = {
   into: (place) => ['In ', place],
   above: 'The folder above',
+  noFolders: 'No folders in it.',
   folder: 'Folder',
   folders: 'Folders',
   renameFolder: 'Rename or move the folder',

@@ -26,7 +26,8 @@ export const FR_EARLIER = {
   putBackOf: (name) => `Remettre ${name}`,
   putBackMissing: 'Remettre ce qui manque',
   headings: ['Nom', 'Type', 'Maintenant', 'Ce qu’on peut faire'],
-  caption: 'Ce qui était dans ce dossier cette nuit-là, et ce qui y est maintenant.',
+  caption: 'Ce qui était dans ce dossier cette nuit-là, et ce qui y est maintenant.'
+    + ' Les touches fléchées vont de ligne en ligne.',
   still: 'toujours là',
   anotherKind: 'autre chose a ce nom',
   goneNow: 'n’est plus là',

@@ -124,6 +124,7 @@ const objectsIn = (names, isFolder) =>
 export const FR_MOVING = {
   into: (place) => ['Dans ', place],
   above: 'Le dossier parent',
+  noFolders: 'Aucun dossier ici.',
   folder: 'Dossier',
   folders: 'Dossiers',
   renameFolder: 'Renommer ou déplacer le dossier',

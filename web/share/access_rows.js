@@ -12,7 +12,7 @@ import { endWords } from '../acl/end_dates.js';
 import { isInherited } from '../acl/entries.js';
 import { tell, tellFault } from '../ui/messages.js';
 import { levelWords, placeName } from './access_words.js';
-import { below, mark, shortened, whoName } from '../ui/names.js';
+import { below, mark, shortened, spokenName, whoName } from '../ui/names.js';
 import { isolated, rightsIn } from '../text/words.js';
 
 const rank = (level) => RANKS.indexOf(level);
@@ -59,7 +59,7 @@ async function change(state, row, value, again, back) {
     return;
   }
   const subject = { who: row.who, isGroup: row.isGroup, name, isLeaving: isGone, level: value };
-  const line = `[aria-label="${CSS.escape(labelOf(row))}"]`;
+  const line = `[aria-label="${CSS.escape(labelOf(state, row))}"]`;
   const done = await confirm(state, () => next, isGone
     ? { title: texts.access.removeAccessTo(placeName(path)), words: texts.access.removeAccess,
       allTheSame: texts.access.removeAllTheSame, subject,
@@ -77,13 +77,13 @@ function goneControl(state, row, again) {
   if (!state.edits || row.inherited || row.level === 'custom' || hasBoth) return null;
   const gone = () => change(state, row, 'gone', again, () => {}).catch(tellFault);
   const label = (row.isGroup ? texts.access.removeAccessOfGroup : texts.access.removeAccessOf)(
-    row.who);
+    spokenName(state.known, row));
   return button(icon('cross'), gone, { class: 'small plain gone', 'aria-label': label,
     title: texts.access.removeAccess });
 }
 
-const labelOf = ({ isGroup, who }) =>
-  (isGroup ? texts.access.whatGroupCan : texts.access.whatCan)(who);
+const labelOf = ({ known }, row) =>
+  (row.isGroup ? texts.access.whatGroupCan : texts.access.whatCan)(spokenName(known, row));
 
 function levelControl(state, row, again) {
   const { kind, edits, model } = state;
@@ -96,7 +96,7 @@ function levelControl(state, row, again) {
   const options = levels.sort((one, other) => rank(one) - rank(other))
     .map((one) => [one, levelWords(one, kind)]);
   const all = hasBoth ? options : [...options, ['gone', texts.access.removeAccess]];
-  return select(labelOf(row), all, row.level, (value, made) => {
+  return select(labelOf(state, row), all, row.level, (value, made) => {
     const back = () => { made.value = row.level; };
     change(state, row, value, again, back).catch((fault) => {
       tellFault(fault);
@@ -131,7 +131,7 @@ async function setEnd(state, row, input, again) {
     tell('bad', input.validity.badInput ? texts.access.partOfDate : texts.access.noDate);
     input.focus();
   } else if (await deliver(state, next, { ways: () => [], left: () => [] }) === 'sent') {
-    await again(`[aria-label="${CSS.escape(labelOf(row))}"]`);
+    await again(`[aria-label="${CSS.escape(labelOf(state, row))}"]`);
     const name = nameIn(state, row);
     tell('good', day === '' ? texts.access.hasNoEnd(name)
       : texts.access.ends(name, endWords(day)));
@@ -144,7 +144,8 @@ function endControl(state, row, again) {
   const isFixed = !edits || row.inherited || row.who.endsWith('@')
     || ['pass', 'clear', 'custom'].includes(row.level);
   if (isFixed) return row.until && element('p', { class: 'hint' }, untilWords(row));
-  const name = (row.isGroup ? texts.access.lastDayOfGroup : texts.access.lastDay)(row.who);
+  const name = (row.isGroup ? texts.access.lastDayOfGroup : texts.access.lastDay)(
+    spokenName(state.known, row));
   const open = () => {
     const input = element('input', { type: 'date', value: row.until ?? '', 'aria-label': name });
     const set = (event) => {
