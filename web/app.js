@@ -10,6 +10,7 @@ import { button, element, icon, nameText } from './ui/dom.js';
 import { hasUnsent } from './acl/draft.js';
 import { showEarlier } from './earlier/earlier.js';
 import { showFolder } from './folder/folder.js';
+import { showNewest } from './folder/newest.js';
 import { showDocument } from './folder/preview.js';
 import { language, texts } from './language/language.js';
 import { linkTo, pathLinks, whereIs } from './ui/links.js';
@@ -84,7 +85,8 @@ async function show() {
   document.getElementById('path').replaceChildren(pathLinks(path));
   clearNotices();
   try {
-    if (view === 'earlier') await showEarlier(path, night, main, isCurrent);
+    if (view === 'new') await showNewest(path, main, isCurrent);
+    else if (view === 'earlier') await showEarlier(path, night, main, isCurrent);
     else if (view) await showObject(path, view, isCurrent);
     else await showFolder(path, main, isCurrent);
   } catch (fault) {
@@ -110,6 +112,7 @@ async function showMe() {
 function speak() {
   document.documentElement.lang = language;
   document.getElementById('skip').textContent = texts.page.skip;
+  document.getElementById('home').setAttribute('aria-label', texts.places.all);
   document.getElementById('path').setAttribute('aria-label', texts.page.path);
   document.getElementById('me').setAttribute('aria-label', texts.page.signedInAs);
 }

@@ -207,7 +207,8 @@ class Tree:
                             'ul, li)')
         for wanted in (('combobox', 'Add people or groups'), ('listbox', 'People and groups'),
                        ('navigation', 'Access'), ('heading', 'Who has access'),
-                       ('combobox', f'What {NAMES["noa"]} can do'), ('checkbox', 'Only these people'),
+                       ('combobox', f'What {NAMES["noa"]} can do'),
+                       ('checkbox', 'Only these people'),
                        ('combobox', 'What the group sales can do'), ('link', 'Who has access'),
                        ('heading', '2026')):
             assert wanted in told, (wanted, told)

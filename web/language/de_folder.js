@@ -23,6 +23,8 @@ export const DE_FOLDER = {
     a: 'Sie dürfen hier keine Ordner anlegen.',
   },
   upload: 'Hochladen',
+  add: 'Hinzufügen',
+  more: 'Mehr',
   uploadFolder: 'Ordner hochladen',
   filesField: 'Dokumente zum Hochladen',
   wholeField: 'Ordner zum Hochladen',

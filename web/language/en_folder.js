@@ -20,6 +20,8 @@ export const EN_FOLDER = {
     a: 'You may not make folders here.',
   },
   upload: 'Upload',
+  add: 'Add',
+  more: 'More',
   uploadFolder: 'Upload a folder',
   filesField: 'Documents to upload',
   wholeField: 'Folder to upload',

@@ -22,6 +22,8 @@ export const FR_FOLDER = {
     a: 'Vous ne pouvez pas créer de dossiers ici.',
   },
   upload: 'Envoyer',
+  add: 'Ajouter',
+  more: 'Plus',
   uploadFolder: 'Envoyer un dossier',
   filesField: 'Documents à envoyer',
   wholeField: 'Dossier à envoyer',
