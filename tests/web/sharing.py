@@ -21,6 +21,8 @@ from people import NAMES, Names
 from tree import Tree
 
 ALL = 'rwanNxDtThHdcCoy'
+# By which name a control is heard.
+HEARD = {**NAMES, 'AUTHENTICATED@': 'Everyone who signs in', 'EVERYONE@': 'Everyone'}
 
 
 class Sharing(Known, Deeper, Looking, Tree):
@@ -92,7 +94,7 @@ class Sharing(Known, Deeper, Looking, Tree):
             if (!menu) return false;
             menu.value = arguments[2];
             menu.dispatchEvent(new Event('change'));
-            return true;""", css, [who, NAMES.get(who, who)], value), f'the menu of {who}')
+            return true;""", css, [who, HEARD.get(who, who)], value), f'the menu of {who}')
         alice.until(lambda: alice.all('dialog .outcome[aria-busy=false]'), 'the question')
 
     def confirm(self, words):

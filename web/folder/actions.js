@@ -46,13 +46,23 @@ export async function makeFolder(folder) {
   return { name };
 }
 
+// What may not be renamed is told so, though it would be a move for the room.
+async function moveOne(path, to) {
+  try {
+    await waitFor(api.move(path, to));
+    return true;
+  } catch (fault) {
+    const isRename = api.parentOf(to) === api.parentOf(path);
+    if (!isRename || fault.status !== 403 || !/[dD]/.test(fault.body?.bits)) throw fault;
+    await tellBarred({ path, at: fault.body.at }, texts.folder.mayNotRename(placeWords(path)));
+    return false;
+  }
+}
+
 export async function move(path, kind) {
   const ask = (typed, wrong) => askMove(path, kind, typed, wrong);
-  const to = await untilFree(ask, async (typed) => {
-    const is = typed !== path && await accepted([{ path, kind }], api.parentOf(typed));
-    if (is) await waitFor(api.move(path, typed));
-    return is;
-  });
+  const to = await untilFree(ask, async (typed) => typed !== path
+    && await accepted([{ path, kind }], api.parentOf(typed)) && moveOne(path, typed));
   if (to === null) return null;
   tell('good', texts.moving.now(isolated(api.nameOf(path)), placeWords(to)));
   return { name: api.parentOf(to) === api.parentOf(path) ? api.nameOf(to) : null };
@@ -77,11 +87,11 @@ export async function moveAll(objects) {
   return { name: null };
 }
 
-// Which one may not be removed, and whom to ask.
-async function tellBarred({ path, at }) {
+// Which one may not be removed or renamed, and whom to ask.
+async function tellBarred({ path, at }, words) {
   const why = element('a', { class: 'button small', href: linkTo(path, 'rights') },
     texts.acts.why);
-  tell('bad', `${texts.folder.mayNotRemove(placeWords(path))} ${await waitFor(askedFor(at))}`, why);
+  tell('bad', `${words} ${await waitFor(askedFor(at))}`, why);
 }
 
 // What comes back does so one by one, so nothing is removed of what couldn't be removed as a whole.
@@ -89,7 +99,7 @@ export async function remove(objects) {
   const { objects: all, unlisted: unseen, barred } = await waitFor(whatGoes(
     api.parentOf(objects[0].path), objects.map(({ path }) => api.nameOf(path))));
   if (barred !== null) {
-    await tellBarred(barred);
+    await tellBarred(barred, texts.folder.mayNotRemove(placeWords(barred.path)));
     return null;
   }
   if (all.length === 0) {

@@ -74,7 +74,23 @@ let shownView = null;
 let told = { shows: null, people: null };
 
 function shownAgain() {
-  if (shownView?.isCurrent()) shownView.refresh();
+  return shownView?.isCurrent() ? shownView.refresh() : null;
+}
+
+// The rows of an upload come as they are done, but not while somebody chooses something, and the
+// less often the longer it takes.
+const SOON = 1500;
+let isSoon = false;
+async function shownSoon() {
+  if (isSoon) return;
+  isSoon = true;
+  let pause = SOON;
+  do await new Promise((resolve) => { setTimeout(resolve, pause); });
+  while (document.querySelector('.menu, dialog[open]'));
+  const began = Date.now();
+  await shownAgain();
+  pause = 4 * (Date.now() - began);
+  setTimeout(() => { isSoon = false; }, pause);
 }
 
 class FolderView {
@@ -85,7 +101,8 @@ class FolderView {
     this.look = { ...newLook(), ...told };
     this.body = element('div', { class: 'sheet' });
     this.places = element('div', { class: 'more-places' });
-    const send = (files, trees, folder) => uploadAll(files, trees, folder, shownAgain);
+    const send = (files, trees, folder) =>
+      uploadAll(files, trees, folder, shownAgain, shownSoon);
     this.bar = folderBar(path, send, () => this.doing(() => acts.makeFolder(path)));
     this.tools = tools(this.look, (what) => this.withChosen(what), () => this.draw(), { path,
       place: this.body, here: () => this.objects(shownOf(this.look)) });

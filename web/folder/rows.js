@@ -127,7 +127,8 @@ function pickAll(look, redraw) {
   return box;
 }
 
-// So many rows are drawn, and more when somebody comes near the last one.
+// So many rows are drawn, and as many again when somebody comes near the last one: so the end of a
+// long folder is a few jumps away.
 const PORTION = 200;
 
 function growing(shown, rowOf, wanted) {
@@ -138,7 +139,7 @@ function growing(shown, rowOf, wanted) {
   growTo(Math.max(at, wanted?.index ?? 0) + PORTION);
   const end = element('div');
   new IntersectionObserver(([{ isIntersecting }]) => {
-    if (isIntersecting) growTo(rows.childElementCount + PORTION);
+    if (isIntersecting) growTo(2 * rows.childElementCount);
   }, { rootMargin: '2000px' }).observe(end);
   return { rows, end, growTo };
 }

@@ -6,7 +6,7 @@ import { today } from '../net/clock.js';
 import { offered, select } from './add_person.js';
 import { button, element, icon, nameText } from '../ui/dom.js';
 import { confirm, deliver } from './confirm.js';
-import { RANKS, keyOf, withLevel } from '../acl/levels.js';
+import { RANKS, keyOf, letRemove, withLevel } from '../acl/levels.js';
 import { linkTo } from '../ui/links.js';
 import { endWords } from '../acl/end_dates.js';
 import { isInherited } from '../acl/entries.js';
@@ -85,9 +85,15 @@ function goneControl(state, row, again) {
 const labelOf = ({ known }, row) =>
   (row.isGroup ? texts.access.whatGroupCan : texts.access.whatCan)(spokenName(known, row));
 
+// By d in a line that is passed on to documents these can be removed all the same.
+const barredWords = ({ entries }) => (entries.some(({ flags, mask }) => flags.includes('f')
+  && mask.includes('d')) ? texts.access.removesNoFolders : texts.access.removesNothing);
+
 function levelControl(state, row, again) {
   const { kind, edits, model } = state;
-  const plain = element('span', { class: 'level' }, levelWords(row.level, kind));
+  const words = levelWords(row.level, kind);
+  const plain = element('span', { class: 'level' },
+    row.barred ? barredWords(row)(words) : words);
   if (!edits || row.inherited || row.level === 'custom') return plain;
   const hasBoth = model.rows.some((one) => one.inherited && one.key === row.key);
   // What was carried here from above is changed there.
@@ -158,7 +164,7 @@ function endControl(state, row, again) {
   };
   const now = row.until ? untilWords(row) : texts.access.noEnd;
   const shown = element('div', {}, button(now, open,
-    { class: 'small plain', 'aria-label': `${name}: ${now}` }));
+    { class: 'small plain ends', 'aria-label': `${name}: ${now}` }));
   return shown;
 }
 
@@ -168,9 +174,24 @@ function line(state, row, again) {
     mark(known, row.who, row.isGroup),
     element('div', { class: 'name-of' }, nameText(whoName(known, row.who, row.isGroup)),
       below(known, row, me, sourceWords(state, row)),
-      endControl(state, row, again),
+      endControl(state, row, again), barredControl(state, row, again),
       row.level === 'custom' ? element('p', { class: 'hint' }, customWords(row, kind)) : null),
     levelControl(state, row, again), goneControl(state, row, again));
+}
+
+// Whoever removes by the folder above, and not here, where a line keeps things in place.
+function barredControl(state, row, again) {
+  if (!state.edits || !row.barred || !row.inherited) return null;
+  const name = nameIn(state, row);
+  const level = levelWords(row.level, state.kind);
+  const does = () => confirm(state, () => letRemove(state.list, [row]), {
+    title: texts.access.letRemoveTitle, words: texts.access.letThem,
+    allTheSame: texts.access.letAllTheSame,
+    subject: { who: row.who, isGroup: row.isGroup, name, level: row.level },
+    sentence: () => texts.access.letRemoveSays(name, level) })
+    .then((done) => (done ? again() : null)).catch(tellFault);
+  return button(texts.access.letRemoveHere, does, { class: 'small',
+    'aria-label': texts.access.letRemoveHereFor(spokenName(state.known, row)) });
 }
 
 const isOwnRow = ({ inherited }) => !inherited;

@@ -25,7 +25,7 @@ export async function wayTo(path) {
 }
 
 // Asked once for each panel, which may be drawn several times.
-function mayChange({ changeable }, path) {
+export function mayChange({ changeable }, path) {
   if (!changeable.has(path)) {
     changeable.set(path, api.can(path, 'C').then((may) => may.C.ruling === 'allowed', () => false));
   }
