@@ -3,10 +3,9 @@
 import { texts } from '../language/language.js';
 
 const DAY = 24 * 3600 * 1000;
-const midnight = (time) => new Date(time.getFullYear(), time.getMonth(), time.getDate());
-// Days of the calendar: one with a change of the clock has 23 or 25 hours.
-const daysSince = (time, now) =>
-  Math.round((midnight(now).getTime() - midnight(time).getTime()) / DAY);
+const midnight = (time) => new Date(time).setHours(0, 0, 0, 0);
+// Days of the reader's calendar: one with a change of the clock has 23 or 25 hours.
+const daysSince = (time, now) => Math.round((midnight(now) - midnight(time)) / DAY);
 
 // 'Today 14:32', of seconds since 1970.
 export function momentWords(seconds, now = new Date()) {
