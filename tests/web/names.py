@@ -212,8 +212,8 @@ class Known:
         alice = self.alice
         users = USERS + [f'user{number}' for number in range(5000)]
         many = people(users=users)
-        many['names'].update({f'user{number}': f'Vorname{number % 700} Nachname{number}'
-                              for number in range(5000)})
+        many['names'] = {**many['names'], **{
+            f'user{number}': f'Vorname{number % 700} Nachname{number}' for number in range(5000)}}
         many['groups'] = {**many['groups'],
                           **{f'group{number}': users[number::200] for number in range(200)}}
         self.names.put('people.json', many)

@@ -52,10 +52,8 @@ async function moveOne(path, to) {
     await waitFor(api.move(path, to));
     return true;
   } catch (fault) {
-    const isRename = api.parentOf(to) === api.parentOf(path);
-    if (!isRename || fault.status !== 403 || !/[dD]/.test(fault.body?.bits)) throw fault;
-    await tellBarred({ path, at: fault.body.at }, texts.folder.mayNotRename(placeWords(path)));
-    return false;
+    if (fault.asked) fault.asked.isRename = api.parentOf(to) === api.parentOf(path);
+    throw fault;
   }
 }
 
@@ -87,11 +85,11 @@ export async function moveAll(objects) {
   return { name: null };
 }
 
-// Which one may not be removed or renamed, and whom to ask.
-async function tellBarred({ path, at }, words) {
+// Which one may not be removed, and whom to ask.
+async function tellBarred({ path, at }) {
   const why = element('a', { class: 'button small', href: linkTo(path, 'rights') },
     texts.acts.why);
-  tell('bad', `${words} ${await waitFor(askedFor(at))}`, why);
+  tell('bad', `${texts.folder.mayNotRemove(placeWords(path))} ${await waitFor(askedFor(at))}`, why);
 }
 
 // What comes back does so one by one, so nothing is removed of what couldn't be removed as a whole.
@@ -99,7 +97,7 @@ export async function remove(objects) {
   const { objects: all, unlisted: unseen, barred } = await waitFor(whatGoes(
     api.parentOf(objects[0].path), objects.map(({ path }) => api.nameOf(path))));
   if (barred !== null) {
-    await tellBarred(barred, texts.folder.mayNotRemove(placeWords(barred.path)));
+    await tellBarred(barred);
     return null;
   }
   if (all.length === 0) {
