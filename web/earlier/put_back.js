@@ -40,8 +40,10 @@ export async function get({ night }, { path, kind }) {
   }
 }
 
-const putBackWords = (missing, there, night) => [texts.earlier.asOf(timeOf(night)),
+// 'isAsked' says that whoever may read it is asked for beside this.
+const putBackWords = (missing, there, night, isAsked) => [texts.earlier.asOf(timeOf(night)),
   ...missing > 0 ? [texts.earlier.missing(missing)] : [],
+  ...missing > 0 && !isAsked ? [texts.earlier.following] : [],
   ...there > 0 ? [texts.earlier.there(there)] : []].join(' ');
 
 // What is there when somebody is asked whether it is to be replaced.
@@ -54,8 +56,10 @@ async function seeThere(there, show, isStopped) {
 }
 
 // What comes back and isn't in something else that does.
-const topsOf = (objects) => objects.filter(({ path }) =>
-  !objects.some((one) => one.path === api.parentOf(path)));
+function topsOf(objects) {
+  const paths = new Set(objects.map(({ path }) => path));
+  return objects.filter(({ path }) => !paths.has(api.parentOf(path)));
+}
 
 // Who could read more than that night, and whether that can be kept from them: {opens, readers}, or
 // null if somebody stopped the look.
@@ -93,7 +97,7 @@ async function asked(night, object, all) {
     { class: 'warnings', 'aria-label': texts.acts.mindThis },
     warned.map((text) => element('li', { class: 'bad' }, text))), readers.box);
   const what = await question(texts.earlier.question(nameShown(object.path)),
-    putBackWords(missing.length, there, night), answers, more);
+    putBackWords(missing.length, there, night, readers.box !== null), answers, more);
   return what === null ? null : { what, who: readers.chosen() };
 }
 

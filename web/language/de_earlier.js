@@ -60,10 +60,9 @@ export const DE_EARLIER = {
   },
   question: (name) => `${name} zurücklegen?`,
   asOf: (time) => `Stand ${moment(time)}:`,
-  missing: (many) => (many === 1
-    ? '1 Objekt, das fehlt, kommt als Ihres zurück und folgt der Zugriffsliste seines Ordners.'
-    : `${objects(many)}, die fehlen, kommen als Ihre zurück und folgen der Zugriffsliste ihres `
-      + 'Ordners.'),
+  missing: (many) => (many === 1 ? '1 Objekt, das fehlt, kommt als Ihres zurück.'
+    : `${objects(many)}, die fehlen, kommen als Ihre zurück.`),
+  following: 'Was zurückkommt, folgt der Zugriffsliste seines Ordners.',
   there: (many) => (many === 1
     ? '1 Dokument ist noch da: Wird es ersetzt, ist sein jetziger Inhalt verloren, und sein '
       + 'Zugriff bleibt.'

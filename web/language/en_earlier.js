@@ -60,10 +60,9 @@ export const EN_EARLIER = {
   // Before something comes back.
   question: (name) => `Put ${name} back?`,
   asOf: (time) => `As of ${moment(time)}:`,
-  missing: (many) => (many === 1
-    ? '1 object that is missing comes back as yours, and follows the access list of its folder.'
-    : `${objects(many)} that are missing come back as yours, and follow the access list of their `
-      + 'folder.'),
+  missing: (many) => (many === 1 ? '1 object that is missing comes back as yours.'
+    : `${objects(many)} that are missing come back as yours.`),
+  following: 'What comes back follows the access list of its folder.',
   there: (many) => (many === 1
     ? '1 document is still there: replaced, what is in it now is lost, and its access stays.'
     : `${count(many, 'document', 'documents')} are still there: replaced, what is in them now is `

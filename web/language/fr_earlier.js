@@ -60,10 +60,9 @@ export const FR_EARLIER = {
   },
   question: (name) => `Remettre ${name} ?`,
   asOf: (time) => `État du ${moment(time)} :`,
-  missing: (many) => (many === 1
-    ? '1 objet qui manque revient comme le vôtre, et suit la liste d’accès de son dossier.'
-    : `${objects(many)} qui manquent reviennent comme les vôtres, et suivent la liste d’accès de `
-      + 'leur dossier.'),
+  missing: (many) => (many === 1 ? '1 objet qui manque revient comme le vôtre.'
+    : `${objects(many)} qui manquent reviennent comme les vôtres.`),
+  following: 'Ce qui revient suit la liste d’accès de son dossier.',
   there: (many) => (many === 1
     ? '1 document est toujours là : s’il est remplacé, son contenu actuel est perdu, et son accès '
       + 'reste.'
