@@ -8,6 +8,7 @@ import { acceptDrops } from './drop.js';
 import { texts } from '../language/language.js';
 import { linkTo } from '../ui/links.js';
 import { notShown, tellFault, waitFor } from '../ui/messages.js';
+import { isWorking } from '../ui/working.js';
 import { arrived, people } from '../net/directory.js';
 import { detailsIn } from '../net/door.js';
 import { knowNights } from '../net/nights.js';
@@ -88,7 +89,8 @@ async function shownSoon() {
   do await new Promise((resolve) => { setTimeout(resolve, pause); });
   while (document.querySelector('.menu, dialog[open]'));
   const began = Date.now();
-  await shownAgain();
+  // At its end an upload shows them by itself.
+  if (isWorking()) await shownAgain();
   pause = 4 * (Date.now() - began);
   setTimeout(() => { isSoon = false; }, pause);
 }
