@@ -9,17 +9,20 @@ import * as api from './net/api.js';
 import { button, element, icon, nameText } from './ui/dom.js';
 import { hasUnsent } from './acl/draft.js';
 import { showEarlier } from './earlier/earlier.js';
+import { editingOf, learnEditing } from './folder/editing.js';
 import { showFolder } from './folder/folder.js';
+import { showNewest } from './folder/newest.js';
 import { showDocument } from './folder/preview.js';
 import { language, texts } from './language/language.js';
 import { linkTo, pathLinks, whereIs } from './ui/links.js';
 import { showList } from './advanced/list_view.js';
+import { keepClear } from './ui/covering.js';
 import { clearNotices, notShown, showWaiting, tellFault, waitFor } from './ui/messages.js';
 import { arrived, fullName, people } from './net/directory.js';
 import { kindOf, showRights } from './advanced/my_rights.js';
 import { showAccess } from './share/share.js';
 import { marked } from './text/invisible.js';
-import { isUploading } from './folder/upload.js';
+import { isWorking } from './ui/working.js';
 
 const DOCUMENT = ['show', texts.page.document];
 const TABS = [['access', texts.page.whoHasAccess], ['rights', texts.page.myRights],
@@ -39,7 +42,9 @@ function objectHead(path, view, kind) {
   const act = (words, does, style) =>
     button(words, () => does().catch(tellFault), { class: style });
   const ofDocument = kind === 'folder' ? []
-    : act(texts.acts.download, () => download([{ path, kind }]), 'primary');
+    : [act(texts.acts.download, () => download([{ path, kind }]), 'primary'),
+      ...editingOf({ kind, name: api.nameOf(path) }, path).map(({ words, href }) =>
+        element('a', { class: 'button', href }, words))];
   const earlier = hasNights()
     ? element('a', { class: 'button', href: linkTo(path, 'earlier') }, texts.earlier.earlier)
     : null;
@@ -63,6 +68,7 @@ async function showOrTell(path, box, isCurrent) {
 
 async function showObject(path, view, isCurrent) {
   const [kind] = await waitFor(Promise.all([kindOf(path), knowNights()]));
+  await learnEditing([{ kind, name: api.nameOf(path) }]);
   if (!isCurrent()) return;
   const box = element('div', { class: 'sheet padded' });
   const head = objectHead(path, view, kind);
@@ -83,7 +89,8 @@ async function show() {
   document.getElementById('path').replaceChildren(pathLinks(path));
   clearNotices();
   try {
-    if (view === 'earlier') await showEarlier(path, night, main, isCurrent);
+    if (view === 'new') await showNewest(path, main, isCurrent);
+    else if (view === 'earlier') await showEarlier(path, night, main, isCurrent);
     else if (view) await showObject(path, view, isCurrent);
     else await showFolder(path, main, isCurrent);
   } catch (fault) {
@@ -109,6 +116,7 @@ async function showMe() {
 function speak() {
   document.documentElement.lang = language;
   document.getElementById('skip').textContent = texts.page.skip;
+  document.getElementById('home').setAttribute('aria-label', texts.places.all);
   document.getElementById('path').setAttribute('aria-label', texts.page.path);
   document.getElementById('me').setAttribute('aria-label', texts.page.signedInAs);
 }
@@ -119,7 +127,7 @@ window.addEventListener('hashchange', () => {
   show();
 });
 window.addEventListener('beforeunload', (event) => {
-  if (hasUnsent() || isUploading()) event.preventDefault();
+  if (hasUnsent() || isWorking()) event.preventDefault();
 });
 // A file that is dropped outside the folder doesn't replace the page.
 for (const kind of ['dragover', 'drop']) {
@@ -131,6 +139,7 @@ document.getElementById('skip').addEventListener('click', (event) => {
   main.focus();
 });
 speak();
+keepClear(document.getElementById('notices'), document.getElementById('uploads'));
 whenWaiting(showWaiting);
 showMe();
 show();

@@ -141,7 +141,7 @@ class Browser:
         ActionChains(self.driver).send_keys(*keys).perform()
 
     def names(self):
-        return self.texts('table.folder .name')
+        return self.texts('table.folder .object .name')
 
     def lists(self, *names):
         try:

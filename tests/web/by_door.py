@@ -79,12 +79,15 @@ class ByDoor:
         bob = self.bob
         bob.open('')
         bob.lists('board', 'letters', 'personnel')
+        # The key means nothing outside the rows.
         bob.type('/')
+        assert not bob.script("return document.activeElement.matches('input')")
+        bob.one('[data-path="/letters"] [data-act=open]').send_keys('/')
         before = len(self.requests('door/find'))
         bob.type('LETTER 11', Keys.ENTER)
         names = ['letter 11.txt', *[f'letter 11{n}.txt' for n in range(10)]]
         bob.until(lambda: sorted(bob.texts('.found .name')) == sorted(names), 'the names')
-        assert bob.texts('.found-of [role=status]') == ['11 names with “LETTER 11”']
+        assert bob.texts('.found-of .bar p') == ['11 names with “LETTER 11”']
         assert 'You may not see what is in “/personnel”.' in bob.texts('.found-of')[0]
         assert len(self.requests('door/find')) == before + 1
         bob.type(Keys.ARROW_DOWN, Keys.ARROW_DOWN, Keys.ARROW_UP, Keys.ARROW_UP)

@@ -68,6 +68,13 @@ class Languages:
               .map((one) => `${one.tagName}: ${one.scrollWidth} of ${one.clientWidth}`)""")
         assert wide == [], wide
 
+    @staticmethod
+    def adds(user, words):
+        """What a telephone has behind its '+'."""
+        user.click(user.one('.phone .primary'))
+        user.button(words, '.menu')
+        user.type(Keys.ESCAPE)
+
     def of_browser(self):
         """The first one of the browser's that there is, or English."""
         for number, (wanted, language) in enumerate((('de-CH,fr,en', 'de'), ('it,fr-CA', 'fr'),
@@ -75,7 +82,7 @@ class Languages:
             user = self.begin(f'of-browser-{number}', wanted)
             user.open('#/')
             assert self.spoken(user) == language, (wanted, self.spoken(user))
-            user.button(NEW_FOLDER[language])
+            self.adds(user, NEW_FOLDER[language])
             user.quit()
             self.browsers.remove(user)
 
@@ -114,7 +121,7 @@ class Languages:
         alice.settled()
         alice.open('#/letters')
         assert self.spoken(alice) == language
-        alice.button(NEW_FOLDER[language])
+        self.adds(alice, NEW_FOLDER[language])
 
     def share(self, language):
         """With bob until a day, then changed and taken away, and nothing stands out."""
@@ -139,7 +146,7 @@ class Languages:
     def take_away(self):
         alice = self.alice
         alice.script("""const one = [...document.querySelectorAll('.holders select')]
-            .find((each) => each.getAttribute('aria-label').includes('bob'));
+            .find((each) => each.getAttribute('aria-label').includes('Bob Lindqvist'));
             one.value = 'gone'; one.dispatchEvent(new Event('change'))""")
         alice.until(lambda: alice.all('dialog'), 'a question')
         self.fits()

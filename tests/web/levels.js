@@ -95,7 +95,8 @@ modules.then(([lists, levels, effects]) => {
   // What stands here only is custom, so nothing is said of those who add.
   equal('carried, though here already', ownOf(withLevel(both, 'folder', staff, 'change')),
     ['A:fd:alice:Dd', `A::alice:${LETTERS}`, KEEP, 'A:fdg:staff:rwaxtc']);
-  equal('more from above', withLevel(shared, 'folder', user('alice'), 'read'), null);
+  equal('less than from above', ownOf(withLevel(shared, 'folder', user('alice'), 'read')),
+    [KEEP, 'A:fdg:staff:rwaxtc', 'A:fd:alice:rxtc', OWN]);
   equal('nothing to carry', ownOf(withLevel(linked, 'folder', staff, 'read')),
     ['A:fdg:staff:rxtc']);
   const under = list('list:a', `A:fdI:alice:${LETTERS}`, 'D:dI:EVERYONE@:Dd', 'A:fdgI:staff:rwaxtc',
@@ -139,8 +140,9 @@ modules.then(([lists, levels, effects]) => {
   for (const [why, ...entries] of [
     ['denies', 'D::bob:w'], ['denies', 'D:fd:EVERYONE@:Dd'], ['denies', 'D:dI:EVERYONE@:Ddw'],
     ['denies', 'D:fI:bob:r'], ['order', KEEP, 'A:fd:bob:rwaxDtc'],
-    ['order', KEEP, `A:fdI:alice:${LETTERS}`],
-    ['order', `A::alice:${LETTERS}`, KEEP, `A:fdI:alice:${LETTERS}`],
+    // What comes from above stands in nobody's way: only it may not remove here.
+    [null, KEEP, `A:fdI:alice:${LETTERS}`],
+    [null, `A::alice:${LETTERS}`, KEEP, `A:fdI:alice:${LETTERS}`],
     ['order', 'A:n:bob:d'], ['order', 'A:fi:bob:D'],
     ['open', 'A:fd:bob:rwaxtc'], ['open', 'A:fdI:bob:wx'], [null, 'A:fi:bob:w'], [null, 'A::bob:a'],
     [null, `A:fd:alice:${LETTERS}`, KEEP, `A:fdI:alice:${LETTERS}`], [null, KEEP, 'A:n:bob:r'],
@@ -149,6 +151,22 @@ modules.then(([lists, levels, effects]) => {
   equal('closed up',
     ownOf(levels.closedUp(list('list:a', 'A:fd:bob:rwaxtc', `A:fdI:alice:${LETTERS}`))),
     ['A:fd:alice:Dd', KEEP, 'A:fd:bob:rwaxtc']);
+
+  // Who may remove by the folder above, and not here, may by one line more.
+  const two = list('list:a', `A:fd:carol:${LETTERS}`, KEEP, 'A:fdg:staff:rwaxtc', OWN,
+    `A:fdI:alice:${LETTERS}`, 'A:fdIg:clerks:rwaxDtc');
+  const rowsOf = (one) => readLevels(one, 'folder').rows;
+  const barredIn = (one) => rowsOf(one).filter(({ barred }) => barred).map(({ who }) => who);
+  equal('barred', barredIn(two), ['alice', 'clerks']);
+  const let1 = levels.letRemove(two, rowsOf(two).filter(({ who }) => who === 'clerks'));
+  equal('one is let', ownOf(let1), [`A:fd:carol:${LETTERS}`, 'A:fdg:clerks:D', KEEP,
+    'A:fdg:staff:rwaxtc', OWN]);
+  equal('the other one isn’t', barredIn(let1), ['alice']);
+  const further = list('list:a', `A:fdI:carol:${LETTERS}`, 'D:dI:EVERYONE@:Dd',
+    `A:fdI:alice:${LETTERS}`);
+  equal('further down', ownOf(levels.letRemove(further, rowsOf(further))), ['A:fd:alice:Dd']);
+  equal('nobody else', levelsOf(let1).filter((one) => !one.startsWith('clerks')),
+    levelsOf(two).filter((one) => !one.startsWith('clerks')));
 
   // A line that only lets somebody pass stays by itself; a custom one is never touched.
   const kim = user('kim');

@@ -141,6 +141,6 @@ class Looking:
         alice.script('window.waits = false; window.go()')
         alice.until(lambda: alice.all('dialog .outcome[aria-busy=false]'), 'all of it', 60)
         told = alice.texts('dialog')[0]
-        assert 'Loses: zoe – no access any more (can read now)' in told, told
+        assert 'Loses: zoe – no access any more' in told, told
         self.confirm('Remove access')
         assert self.list_of('/big') == before

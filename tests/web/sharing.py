@@ -17,10 +17,12 @@ from browser import Browser, Checks
 from deeper import Deeper
 from looking import Looking
 from names import Known
-from people import Names
+from people import NAMES, Names
 from tree import Tree
 
 ALL = 'rwanNxDtThHdcCoy'
+# By which name a control is heard.
+HEARD = {**NAMES, 'AUTHENTICATED@': 'Everyone who signs in', 'EVERYONE@': 'Everyone'}
 
 
 class Sharing(Known, Deeper, Looking, Tree):
@@ -87,11 +89,12 @@ class Sharing(Known, Deeper, Looking, Tree):
         alice = self.alice
         alice.until(lambda: alice.script("""
             const menu = [...document.querySelectorAll(arguments[0])]
-            .find((one) => one.getAttribute('aria-label') === `What ${arguments[1]} can do`);
+            .find((one) => arguments[1].some((name) =>
+              one.getAttribute('aria-label') === `What ${name} can do`));
             if (!menu) return false;
             menu.value = arguments[2];
             menu.dispatchEvent(new Event('change'));
-            return true;""", css, who, value), f'the menu of {who}')
+            return true;""", css, [who, HEARD.get(who, who)], value), f'the menu of {who}')
         alice.until(lambda: alice.all('dialog .outcome[aria-busy=false]'), 'the question')
 
     def confirm(self, words):

@@ -2,7 +2,7 @@
 
 import os
 
-from people import people
+from people import NAMES, people
 from selenium.webdriver.common.keys import Keys
 
 # Texts that don't stand out from what is behind them, by WCAG's contrast: what they are, and how
@@ -207,7 +207,8 @@ class Tree:
                             'ul, li)')
         for wanted in (('combobox', 'Add people or groups'), ('listbox', 'People and groups'),
                        ('navigation', 'Access'), ('heading', 'Who has access'),
-                       ('combobox', 'What noa can do'), ('checkbox', 'Only these people'),
+                       ('combobox', f'What {NAMES["noa"]} can do'),
+                       ('checkbox', 'Only these people'),
                        ('combobox', 'What the group sales can do'), ('link', 'Who has access'),
                        ('heading', '2026')):
             assert wanted in told, (wanted, told)

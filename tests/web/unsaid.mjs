@@ -159,7 +159,8 @@ const REMOVED = { 'remove it': 'it', 'remove what is there': 'inside',
 // {level, removes} of the words of a line: 'removes' has words of REMOVED. The level is null where
 // they are about removing alone.
 function meaningOf(text) {
-  const said = text.replace(/ \(.*\)$/, '').replace(/^no access any more$/, 'no access')
+  const said = text.replace(/ \(.*\)$/, '')
+    .replace(/^no access any more( by this list)?$/, 'no access')
     .replace(/^.* now, then /, '');
   if (Object.hasOwn(MOST, said)) return { level: said, removes: [] };
   const gained = said.replace(/(^|, but )can’t .*$/, '');

@@ -41,6 +41,10 @@ export function afterMoving(list, above, kind) {
   return [...ownOf(list.entries), ...passedDown(above.entries, kind)];
 }
 
+// Whether an object has something in its list that doesn't come from the folder above.
+export const isException = ({ list, kind }) => list !== null && (list.protect
+  || (kind === 'folder' && !list.auto) || list.entries.some((entry) => !isInherited(entry)));
+
 // An object that somebody else made in a folder whose group is this one.
 export const ofOthers = (group) => ({ owner: '', group });
 

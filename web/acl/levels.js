@@ -1,9 +1,10 @@
 // What the entries of a dacl say in the levels of an office, and back. Nothing here draws or asks.
 //
 // A list is simple if each of its own and inherited entries allows, except the line that keeps
-// things in place, and if nobody who may remove stands below that line. In such a list the order
-// counts for nothing else: each right except D and d is had by whoever any entry gives it to. So
-// the entries of one person or group can be exchanged without touching what the others may do.
+// things in place, and if nobody whom an own entry lets remove stands below that line. In such a
+// list the order counts for nothing else that can be changed here: each right except D and d is had
+// by whoever any entry gives it to. So the entries of one person or group can be exchanged without
+// touching what the others may do.
 
 import { endEntry, endingOf } from './end_dates.js';
 import { isGroup, isInherited, orderMask, printEntry, readEntry } from './entries.js';
@@ -62,6 +63,15 @@ function levelOf(entries, kind) {
 const fills = ({ type, flags, mask }) => type === 'A' && mask.includes('w') && !mask.includes('D')
   && (!flags.includes('i') || flags.includes('d'));
 
+// The entries that would let somebody remove, and stand below the line that keeps things. Whoever
+// stands below it may be above it as well, with what the line would take.
+function barredIn(entries, kind) {
+  const at = entries.findIndex(isKeep);
+  const above = entries.slice(0, Math.max(0, at));
+  return at < 0 ? [] : entries.slice(at).filter((entry) => isRemoving(entry) && !isOwn(entry, kind)
+    && !above.some((one) => gives(one, entry, removing(entry.mask))));
+}
+
 // Whether it may be edited by levels: null, or why not: 'denies', 'apart', 'open' or 'order'.
 export function whyNot(list, kind) {
   const { entries } = list;
@@ -70,13 +80,9 @@ export function whyNot(list, kind) {
   const heads = (those) => those.filter((entry) => isRemoving(entry) && !isOwn(entry, kind));
   // What is passed on in part can't be carried above the line as it is.
   if (heads(entries).some(({ flags }) => /[ni]/.test(flags))) return 'order';
-  const at = entries.findIndex(isKeep);
   // Without the line, whoever may add may remove as well.
-  if (at < 0) return kind === 'folder' && entries.some(fills) ? 'open' : null;
-  const above = entries.slice(0, at);
-  // Whoever stands below the line may be above it as well, with what the line would take.
-  const isAbove = (entry) => above.some((one) => gives(one, entry, removing(entry.mask)));
-  return heads(entries.slice(at)).every(isAbove) ? null : 'order';
+  if (!entries.some(isKeep)) return kind === 'folder' && entries.some(fills) ? 'open' : null;
+  return barredIn(entries, kind).every(isInherited) ? null : 'order';
 }
 
 // An entry that only lets somebody pass is a line of its own: what is named to them further down
@@ -96,11 +102,11 @@ export const isLineOf = (entry, { who, isGroup: group }) => !isInherited(entry)
   && (keyOf(entry) === keyOf({ who, flags: group ? 'g' : '' })
     || [endingOf(entry)].some((end) => end?.who === who && end.isGroup === group));
 
-// {rows: [{key, who, isGroup, level, entries, inherited, until, ends}], keep, own, ended, loose,
-// why}. The rows are in the order of the list; one person or group may have an own one and an
-// inherited one. 'until' is a day or null, and 'ends' says whether the nightly run can take the
-// access away after it. 'ended' are the accesses that were taken back, and 'loose' are the days
-// whose access is gone.
+// {rows: [{key, who, isGroup, level, entries, inherited, until, ends, barred}], keep, own, ended,
+// loose, why}. The rows are in the order of the list; one person or group may have an own one and
+// an inherited one. 'until' is a day or null, and 'ends' says whether the nightly run can take the
+// access away after it. 'barred' says that what the level lets them remove is kept in place here.
+// 'ended' are the accesses that were taken back, and 'loose' are the days whose access is gone.
 export function readLevels(list, kind) {
   const rows = new Map();
   const ends = endsOf(list);
@@ -122,8 +128,9 @@ export function readLevels(list, kind) {
       .sort((one, other) => (one.day < other.day ? -1 : 1));
     return { ...row, until: (kept[0] ?? theirs[0])?.day ?? null, ends: kept.length > 0 };
   };
+  const barred = barredIn(list.entries, kind);
   const leveled = [...rows.values()].map((row) => withEnd({ ...row,
-    level: levelOf(row.entries, kind) }));
+    level: levelOf(row.entries, kind), barred: row.entries.some((one) => barred.includes(one)) }));
   const isTaken = (end) => leveled.some((row) => !row.inherited
     && isEndOf({ ...row, isPass: row.level === 'pass' })(end));
   return {
@@ -170,6 +177,15 @@ function kept(entries) {
     ...rest.slice(at), ...entries.filter(isInherited)];
 }
 
+// The list in which these rows from above, which are barred, may remove here too.
+export function letRemove(list, rows) {
+  const carried = carriedFor(rows.filter(({ barred, inherited }) => barred && inherited)
+    .flatMap((row) => row.entries));
+  const own = ownOf(list.entries);
+  own.splice(Math.max(0, own.findIndex(isKeep)), 0, ...carried);
+  return { ...list, entries: [...own, ...list.entries.filter(isInherited)] };
+}
+
 // An open list in which only those remove who are said to.
 export const closedUp = (list) => ({ ...list, entries: kept(list.entries) });
 
@@ -198,19 +214,23 @@ function withLines(list, now, level) {
   return { ...list, entries: all };
 }
 
-// Without the lines that withLines wrote for the last one who adds, once that one's entries, of
-// which the first was this one, are gone: as it was before.
-function withoutLines(entries, before, first, kind) {
+// Without the lines that withLines wrote for the last one who adds, once that row has another
+// level, or none: as it was before.
+function withoutLines(entries, before, { entries: [first] }, level, kind) {
   const rows = readLevels({ auto: true, protect: false, entries }, kind).rows;
   const place = (list, holds) => ownOf(list).findIndex(holds);
   const at = ownOf(before).indexOf(first);
   const [keep, own] = [isKeep, (entry) => isOwn(entry, kind)].map((one) => place(before, one));
   const isAlone = !rows.some(({ level }) => isTail(level) || level === 'custom');
+  // Without the line that keeps things, whoever is barred by it would remove.
+  const isFree = barredIn(entries, kind).length === 0;
   const drops = [];
-  if (isAlone && own > at) drops.push((entry) => isOwn(entry, kind) && !isInherited(entry));
+  if (isAlone && own > at && (isFree || level === null)) {
+    drops.push((entry) => isOwn(entry, kind) && !isInherited(entry));
+  }
   const behind = ownOf(entries).slice(place(entries, isKeep) + 1);
   const isLast = behind.every((entry) => isOwn(entry, kind)) && (own < keep || own > at);
-  if (keep >= 0 && keep < at && isLast && !entries.some(fills)) {
+  if (keep >= 0 && keep < at && isLast && isFree && !entries.some(fills)) {
     const carried = carriedFor(entries).map(printEntry);
     drops.push((entry) => !isInherited(entry)
       && (isKeep(entry) || carried.includes(printEntry(entry))));
@@ -228,7 +248,7 @@ function changed(list, kind, { who, isGroup: group }, level, isPass, until) {
   const others = list.entries.filter((entry) => !row?.entries.includes(entry)
     && !ends.some((end) => end.entry === entry));
   const wasLast = kind === 'folder' && row && isTail(row.level) && !(level && isTail(level));
-  const entries = wasLast ? withoutLines(others, list.entries, row.entries[0], kind) : others;
+  const entries = wasLast ? withoutLines(others, list.entries, row, level, kind) : others;
   if (level === null) return { ...list, entries };
   const end = until && endEntry({ ...until, level, who, isGroup: group });
   if (until && end === null) return null;
@@ -262,8 +282,11 @@ export function joined(list, coming, kind) {
   const before = own.slice(0, Math.max(0, own.length - lines.length));
   const isUndone = own.slice(before.length).map(printEntry).join() === lines.join();
   const fits = (entries) => whyNot({ ...list, entries: [...entries, ...coming] }, kind) === null;
-  const others = [own.filter((entry) => !isCopy(entry)),
+  // Whoever removes by an own line, and is barred by what comes from above, keeps it.
+  const isFree = (entries) => barredIn([...entries, ...coming], kind).length === 0;
+  const [fewest, more] = [own.filter((entry) => !isCopy(entry)),
     own.filter((entry) => !isCopy(entry) || isRemoving(entry))];
-  const entries = isUndone ? before : others.find(fits) ?? own;
+  const others = fits(fewest) && isFree(fewest) ? fewest : [more].find(fits) ?? own;
+  const entries = isUndone ? before : others;
   return { ...list, protect: false, entries };
 }

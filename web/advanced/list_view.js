@@ -1,6 +1,7 @@
 // A list of an object: as a table and as text, and what is done with it.
 
 import * as api from '../net/api.js';
+import { announce } from '../ui/announce.js';
 import { button, element } from '../ui/dom.js';
 import { Draft } from '../acl/draft.js';
 import { texts } from '../language/language.js';
@@ -10,7 +11,7 @@ import { pickReady } from '../share/pick_list.js';
 import { drawTable } from './table.js';
 import { tabs } from '../ui/tabs.js';
 import { drawText } from './list_text.js';
-import { sentenceOf } from '../text/words.js';
+import { faultWords, sentenceOf } from '../text/words.js';
 
 const INTRODUCTIONS = { dacl: texts.advanced.decides, sacl: texts.advanced.recording };
 
@@ -30,8 +31,10 @@ function panes(draft) {
     else drawTable(draft, body);
   });
   const showFault = () => {
-    if (shown === table && draft.faultPlace() >= 0) drawTable(draft, panel);
-    else {
+    if (shown === table && draft.faultPlace() >= 0) {
+      drawTable(draft, panel);
+      announce('bad', faultWords(draft.fault.code));
+    } else {
       show(text);
       showTextFault(true);
     }

@@ -54,7 +54,7 @@ function inheritedRow(draft, entry) {
 function faultRow(draft, columns) {
   const said = texts.advanced.faultAt(draft.faultPlace() + 1, faultWords(draft.fault.code));
   return element('tr', { class: 'fault' },
-    element('td', { colspan: String(columns), role: 'alert' }, said));
+    element('td', { colspan: String(columns) }, said));
 }
 
 function flagBox(draft, name, label, hint, redraw) {

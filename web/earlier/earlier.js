@@ -5,6 +5,7 @@ import { actsOf, get, putBack, tellNightFault } from './put_back.js';
 import { bothOf, bytesThen, isSameNow, kindNow } from './then.js';
 import { button, element, icon, nameText } from '../ui/dom.js';
 import { texts } from '../language/language.js';
+import { rove } from '../ui/keys.js';
 import { linkTo } from '../ui/links.js';
 import { notShown, waitFor } from '../ui/messages.js';
 import { nightsKept } from '../net/nights.js';
@@ -43,25 +44,28 @@ function rowOf(night, folder, row, redraw) {
   const path = api.join(folder, name);
   const label = [icon(kind ?? now), nameText(name)];
   const shown = kind === 'folder'
-    ? element('a', { class: 'object', href: linkTo(path, `earlier=${night.night}`) }, label)
+    ? element('a', { class: 'object', href: linkTo(path, `earlier=${night.night}`),
+      'data-act': 'open' }, label)
     : element('span', { class: 'object' }, label);
-  return element('tr', { 'data-path': path, class: kind === null ? 'later' : now === null ? 'gone'
-    : null },
+  return element('tr', { 'data-path': path, 'aria-label': marked(name),
+    class: kind === null ? 'later' : now === null ? 'gone' : null },
   element('td', { class: 'what' }, shown),
   element('td', { class: 'kind' }, kindWords({ name, kind: kind ?? now })),
   element('td', { class: 'kind now' }, nowWords(row)),
-  element('td', { class: 'acts' },
-    kind === null ? [] : actsOf(night, { path, kind, now }, marked(name), redraw)));
+  element('td', { class: 'acts' }, element('div', {},
+    kind === null ? [] : actsOf(night, { path, kind, now }, marked(name), redraw))));
 }
 
 async function folderRows(night, path, redraw) {
   const rows = await bothOf(night.night, path);
   if (!rows.some(({ kind }) => kind !== null)) return empty(texts.earlier.empty);
-  return element('table', { class: 'folder then' },
+  const body = element('tbody', {}, rows.map((row) => rowOf(night, path, row, redraw)));
+  const table = element('table', { class: 'folder then', role: 'grid' },
     element('caption', { class: 'unseen' }, texts.earlier.caption),
     element('thead', {}, element('tr', {}, texts.earlier.headings.map((heading) =>
-      element('th', { scope: 'col' }, heading)))),
-    element('tbody', {}, rows.map((row) => rowOf(night, path, row, redraw))));
+      element('th', { scope: 'col' }, heading)))), body);
+  rove(body);
+  return table;
 }
 
 async function documentShown(night, path, redraw) {
@@ -69,7 +73,7 @@ async function documentShown(night, path, redraw) {
   const same = await isSameNow(then, path);
   const now = same === null ? null : 'document';
   const said = { true: texts.earlier.same, false: texts.earlier.changed, null: texts.earlier.gone };
-  return element('div', { class: 'padded' }, element('p', { role: 'status' },
+  return element('div', { class: 'padded' }, element('p', { class: 'compared' },
     said[String(same)] ?? texts.earlier.unknown),
     element('div', { class: 'actions' },
       actsOf(night, { path, kind: 'document', now }, marked(api.nameOf(path)), redraw)));
@@ -92,11 +96,11 @@ class EarlierView {
     this.box.replaceChildren(element('section',
       { class: 'folder-view', 'aria-label': texts.earlier.earlier },
       element('div', { class: 'bar' },
-        element('h1', {}, texts.earlier.titleOf(name)),
+        element('h1', {}, element('span', {}, texts.earlier.titleOf(name))),
         element('div', { class: 'actions' }, this.all,
           element('a', { class: 'button', href: linkTo(path) }, texts.earlier.backToNow))),
       element('div', { class: 'tools' }, this.choice),
-      element('p', { class: 'hint' }, texts.earlier.hint), this.body));
+      element('p', { class: 'hint then-hint' }, texts.earlier.hint), this.body));
   }
 
   // A whole folder at once.

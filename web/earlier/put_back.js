@@ -2,15 +2,20 @@
 // whoever does that, so today's rights decide, and it is theirs.
 
 import * as api from '../net/api.js';
-import { allThen, missingAbove, ownLists } from './then.js';
+import { bringClosed, giveLists } from './closed.js';
+import { mayClose, opensBy } from './readers_then.js';
+import { allThen, missingAbove } from './then.js';
+import { opensWords, whoReads } from './who_reads.js';
 import { documentThen, zipThen } from '../net/nights.js';
 import { inTurn } from '../folder/batch.js';
 import { save, saveWhole } from '../folder/download.js';
 import { askingInTurn } from '../folder/replacing.js';
 import { putSafely, tagNow } from '../folder/safe_put.js';
+import { people } from '../net/directory.js';
 import { element } from '../ui/dom.js';
 import { question, tell, tellFault, waitFor } from '../ui/messages.js';
 import { stoppable } from '../ui/panel.js';
+import { asWork } from '../ui/working.js';
 import { texts } from '../language/language.js';
 import { nightFault, timeOf } from '../text/night_words.js';
 import { isolated, placeWords } from '../text/words.js';
@@ -35,15 +40,11 @@ export async function get({ night }, { path, kind }) {
   }
 }
 
-// {missing, there} say how many objects aren't there now and how many documents are, {closed,
-// unknown} how many of the missing had a list of their own, or may have had.
-function putBackWords({ missing, there, closed, unknown }, night) {
-  return [texts.earlier.asOf(timeOf(night)),
-    ...missing > 0 ? [texts.earlier.missing(missing)] : [],
-    ...there > 0 ? [texts.earlier.there(there)] : [],
-    ...closed > 0 ? [texts.earlier.closed(closed)] : [],
-    ...unknown > 0 ? [texts.earlier.perhapsClosed(unknown)] : []].join(' ');
-}
+// 'isAsked' says that whoever may read it is asked for beside this.
+const putBackWords = (missing, there, night, isAsked) => [texts.earlier.asOf(timeOf(night)),
+  ...missing > 0 ? [texts.earlier.missing(missing)] : [],
+  ...missing > 0 && !isAsked ? [texts.earlier.following] : [],
+  ...there > 0 ? [texts.earlier.there(there)] : []].join(' ');
 
 // What is there when somebody is asked whether it is to be replaced.
 async function seeThere(there, show, isStopped) {
@@ -54,7 +55,28 @@ async function seeThere(there, show, isStopped) {
   }
 }
 
-// What is chosen of it: 'missing', 'all' or null.
+// What comes back and isn't in something else that does.
+function topsOf(objects) {
+  const paths = new Set(objects.map(({ path }) => path));
+  return objects.filter(({ path }) => !paths.has(api.parentOf(path)));
+}
+
+// Who could read more than that night, and whether that can be kept from them: {opens, readers}, or
+// null if somebody stopped the look.
+async function looked({ night }, missing, documents) {
+  const panel = stoppable(texts.earlier.putBack, missing.length + documents.length);
+  const tops = topsOf(missing);
+  const look = Promise.all([opensBy(night, missing, panel.show, panel.isStopped),
+    seeThere(documents, panel.show, panel.isStopped)]);
+  const [opens] = await waitFor(look).finally(panel.remove);
+  if (panel.isStopped()) return null;
+  const isOpen = opens.gained.length + opens.unknown > 0;
+  const isOffered = isOpen
+    && await waitFor(mayClose(tops.map(({ path }) => api.parentOf(path))));
+  return { opens, isOpen, readers: await waitFor(whoReads(night, tops, isOffered)) };
+}
+
+// What is chosen of it: {what: 'missing' or 'all', who: 'alone', 'then' or 'now'}, or null.
 async function asked(night, object, all) {
   const missing = all.filter(({ isThere }) => !isThere);
   const documents = all.filter(({ isThere, kind }) => isThere && kind === 'document');
@@ -63,17 +85,20 @@ async function asked(night, object, all) {
     tell('good', texts.earlier.nothingMissing);
     return null;
   }
-  const panel = stoppable(texts.earlier.putBack, missing.length + there);
-  const [lists] = await waitFor(Promise.all([
-    ownLists(night.night, missing, panel.show, panel.isStopped),
-    seeThere(documents, panel.show, panel.isStopped)])).finally(panel.remove);
-  if (panel.isStopped()) return null;
-  const look = lists.closed + lists.unknown > 0 ? 'danger' : 'primary';
+  const found = await looked(night, missing, documents);
+  if (found === null) return null;
+  const { opens, isOpen, readers } = found;
+  const look = isOpen && readers.box === null ? 'danger' : 'primary';
   const answers = there === 0 ? [['missing', texts.earlier.putBack, look]] : [
     ...missing.length === 0 ? [] : [['missing', texts.earlier.onlyMissing, look]],
     ['all', all.length === 1 ? texts.earlier.replace : texts.earlier.allOfIt, 'danger']];
-  return question(texts.earlier.question(nameShown(object.path)),
-    putBackWords({ missing: missing.length, there, ...lists }, night), answers);
+  const warned = opensWords(opens, await people());
+  const more = element('div', {}, warned.length === 0 ? null : element('ul',
+    { class: 'warnings', 'aria-label': texts.acts.mindThis },
+    warned.map((text) => element('li', { class: 'bad' }, text))), readers.box);
+  const what = await question(texts.earlier.question(nameShown(object.path)),
+    putBackWords(missing.length, there, night, readers.box !== null), answers, more);
+  return what === null ? null : { what, who: readers.chosen() };
 }
 
 // As an upload: what somebody made or changed since the question isn't replaced without another
@@ -89,6 +114,26 @@ async function bringBack(night, { path, kind, isThere, seen }, ask) {
   return true;
 }
 
+// Brings back what was chosen, open as its folder is or closed: the turn, with how many were left
+// as they are.
+async function bringAll(night, object, chosen, who) {
+  const ask = askingInTurn(chosen.length);
+  const [me, tops] = [await api.whoAmI(), new Set(topsOf(chosen.filter(({ isThere }) => !isThere))
+    .map(({ path }) => path))];
+  const isTop = (path) => tops.has(path);
+  let kept = 0;
+  const turn = await inTurn(chosen, async (one) => {
+    if (who === 'now' || one.isThere) kept += await bringBack(night.night, one, ask) ? 0 : 1;
+    else await bringClosed(night.night, one, isTop(one.path), me);
+  }, { title: texts.earlier.putting(nameShown(object.path)), told: texts.earlier.putSomeOf },
+  who !== 'now');
+  const isWhole = turn.failed.length + turn.left.length === 0;
+  const shut = who === 'then' && isWhole ? await waitFor(asWork(giveLists(night.night,
+    chosen.filter(({ isThere }) => !isThere), isTop, me))) : [];
+  if (shut.length > 0) tell('bad', texts.earlier.staysShut(shut.map(placeWords)));
+  return { ...turn, kept };
+}
+
 // Puts back an object, and all that was below it. Returns whether anything changed.
 export async function putBack(night, object) {
   const unseen = [];
@@ -98,13 +143,9 @@ export async function putBack(night, object) {
   const answer = await asked(night, object, all);
   if (answer === null) return false;
   const chosen = all.filter(({ isThere, kind }) =>
-    !isThere || (answer === 'all' && kind === 'document'));
-  const ask = askingInTurn(chosen.length);
-  let kept = 0;
-  const turn = await inTurn(chosen,
-    async (one) => { kept += await bringBack(night.night, one, ask) ? 0 : 1; },
-    { title: texts.earlier.putting(nameShown(object.path)), told: texts.earlier.putSomeOf });
-  const { failed, left, stopped } = turn;
+    !isThere || (answer.what === 'all' && kind === 'document'));
+  const { failed, left, stopped, kept, ...turn } =
+    await bringAll(night, object, chosen, answer.who);
   const done = turn.done - kept;
   if (done > 0) tell('good', texts.earlier.isBack(done, placeWords(api.parentOf(object.path))));
   if (failed.length > 0) tellNightFault(failed[0].fault);
@@ -117,13 +158,13 @@ export async function putBack(night, object) {
 
 // The buttons of an object of then.
 export function actsOf(night, object, name, redraw) {
-  const act = (label, title, does) => element('button', {
-    type: 'button', class: 'small', 'aria-label': title,
+  const act = (word, label, title, does) => element('button', {
+    type: 'button', class: 'small', 'aria-label': title, 'data-act': word,
     onclick: () => does().catch(tellNightFault),
   }, label);
   return [
-    act(texts.earlier.get, texts.earlier.getOf(name), () => get(night, object)),
-    act(texts.earlier.putBack, texts.earlier.putBackOf(name), async () => {
+    act('get', texts.earlier.get, texts.earlier.getOf(name), () => get(night, object)),
+    act('back', texts.earlier.putBack, texts.earlier.putBackOf(name), async () => {
       if (await putBack(night, object)) redraw();
     })];
 }

@@ -1,7 +1,7 @@
 // What was there on an earlier night, beside what is there now. Nothing here draws or changes.
 
 import * as api from '../net/api.js';
-import { documentThen, folderThen, listThen } from '../net/nights.js';
+import { documentThen, folderThen } from '../net/nights.js';
 
 // {kind} of each name in a folder now, or null where that isn't known.
 async function namesNow(path) {
@@ -59,30 +59,6 @@ export async function allThen(night, { path, kind, now }, unseen) {
     unseen.push(path);
     return [here];
   }
-}
-
-// Whether it had entries of its own, or was cut off from its folder. Null where that can't be seen.
-async function hadOwnList(night, path) {
-  try {
-    const [flags, ...entries] = (await listThen(night, path)).trimEnd().split('\n');
-    return flags.includes('p') || entries.some((line) => !line.split(':')[1].includes('I'));
-  } catch (fault) {
-    if (fault.status !== 403) throw fault;
-    return null;
-  }
-}
-
-// How many of these had a list of their own, and how many may have had: {closed, unknown}.
-export async function ownLists(night, objects, show, isStopped) {
-  let [closed, unknown] = [0, 0];
-  for (const [index, { path }] of objects.entries()) {
-    if (isStopped()) break;
-    show(index, objects.length);
-    const had = await hadOwnList(night, path);
-    if (had === null) unknown += 1;
-    else if (had) closed += 1;
-  }
-  return { closed, unknown };
 }
 
 const bytesOf = async (blob) => new Uint8Array(await (await blob).arrayBuffer());

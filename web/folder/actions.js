@@ -46,13 +46,21 @@ export async function makeFolder(folder) {
   return { name };
 }
 
+// What may not be renamed is told so, though it would be a move for the room.
+async function moveOne(path, to) {
+  try {
+    await waitFor(api.move(path, to));
+    return true;
+  } catch (fault) {
+    if (fault.asked) fault.asked.isRename = api.parentOf(to) === api.parentOf(path);
+    throw fault;
+  }
+}
+
 export async function move(path, kind) {
   const ask = (typed, wrong) => askMove(path, kind, typed, wrong);
-  const to = await untilFree(ask, async (typed) => {
-    const is = typed !== path && await accepted([{ path, kind }], api.parentOf(typed));
-    if (is) await waitFor(api.move(path, typed));
-    return is;
-  });
+  const to = await untilFree(ask, async (typed) => typed !== path
+    && await accepted([{ path, kind }], api.parentOf(typed)) && moveOne(path, typed));
   if (to === null) return null;
   tell('good', texts.moving.now(isolated(api.nameOf(path)), placeWords(to)));
   return { name: api.parentOf(to) === api.parentOf(path) ? api.nameOf(to) : null };

@@ -6,6 +6,7 @@ import { endsAll, mayHelpAgain } from '../net/retry.js';
 import { button, element } from '../ui/dom.js';
 import { showDialog, waitFor } from '../ui/messages.js';
 import { stoppable } from '../ui/panel.js';
+import { asWork } from '../ui/working.js';
 import { sentenceOf } from '../text/words.js';
 
 async function once(objects, does, panel, stopsAtFault) {
@@ -38,7 +39,7 @@ export async function inTurn(objects, does, { title, told }, stopsAtFault = fals
   let [done, rest] = [0, objects];
   for (;;) {
     const panel = stoppable(title, rest.length);
-    const last = await waitFor(once(rest, does, panel, stopsAtFault));
+    const last = await waitFor(asWork(once(rest, does, panel, stopsAtFault)));
     panel.remove();
     done += last.done;
     const fault = last.failed.map((one) => one.fault).find(mayHelpAgain);

@@ -1,6 +1,7 @@
 // Names further down that contain what was typed, from the open folder on: the door looks for them.
 
 import * as api from '../net/api.js';
+import { announce } from '../ui/announce.js';
 import { button, element, icon, nameText } from '../ui/dom.js';
 import { texts } from '../language/language.js';
 import { findBelow } from '../net/door.js';
@@ -35,34 +36,22 @@ function goThrough(list, field) {
   });
 }
 
+function toldOf({ found }, text, isBusy) {
+  if (isBusy) return texts.find.busy;
+  return found.length === 0 ? texts.find.none : texts.find.found(found.length, isolated(text));
+}
+
 function shown({ found, all, unlisted }, { text, top, field, isBusy }, back) {
   const list = element('ul', { class: 'places found', 'aria-label': texts.find.find },
     found.map((one) => line(one, top)));
   goThrough(list, field);
   const hidden = unlisted.map((path) => texts.places.quoted(isolated(path)));
-  const some = found.length === 0 ? texts.find.none
-    : texts.find.found(found.length, isolated(text));
-  const told = isBusy ? texts.find.busy : some;
   return element('div', { class: 'found-of' },
-    element('div', { class: 'bar' }, element('p', { role: 'status' }, told),
+    element('div', { class: 'bar' }, element('p', {}, toldOf({ found }, text, isBusy)),
       button(texts.page.backToFolder, back, { class: 'small' })), list,
     isBusy || all ? null : element('p', { class: 'hint' }, texts.find.more),
     hidden.length === 0 ? null
       : element('p', { class: 'hint' }, texts.find.unseen(shortened(hidden, MOST_UNSEEN))));
-}
-
-// The field takes the focus by '/', where nothing is typed anywhere else.
-function takeKey(field) {
-  const take = (event) => {
-    if (!field.isConnected) document.removeEventListener('keydown', take);
-    else if (event.key === '/' && !event.ctrlKey && !event.altKey && !event.metaKey
-      && !event.target.matches('input, textarea, select') && !document.querySelector('dialog[open]')
-      && field.checkVisibility()) {
-      event.preventDefault();
-      field.focus();
-    }
-  };
-  document.addEventListener('keydown', take);
 }
 
 // A search from the folder 'top' on: what was typed in 'field' is looked for, and shown in 'place'.
@@ -97,8 +86,11 @@ class Finder {
     this.looks += 1;
     const look = this.looks;
     const isWanted = () => look === this.looks && this.place.isConnected;
-    const draw = (told, isBusy) => this.place.replaceChildren(
-      shown(told, { text, top: this.top, field: this.field, isBusy }, () => this.back()));
+    const draw = (told, isBusy) => {
+      this.place.replaceChildren(
+        shown(told, { text, top: this.top, field: this.field, isBusy }, () => this.back()));
+      announce('good', toldOf(told, text, isBusy));
+    };
     draw({ found: this.here(), all: false, unlisted: [] }, true);
     try {
       const told = await waitFor(findBelow(this.top, text));
@@ -124,6 +116,5 @@ export function finder(top, field, shownBy) {
   const made = new Finder(top, field, shownBy);
   field.addEventListener('input', () => { made.looks += 1; });
   field.addEventListener('keydown', (event) => made.take(event));
-  takeKey(field);
   return made;
 }

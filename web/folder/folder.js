@@ -3,86 +3,25 @@
 import * as acts from './actions.js';
 import * as api from '../net/api.js';
 import { closedFolder, placesBelow } from './no_listing.js';
-import { button, element, icon, nameText } from '../ui/dom.js';
+import { button, element } from '../ui/dom.js';
 import { acceptDrops } from './drop.js';
 import { texts } from '../language/language.js';
 import { linkTo } from '../ui/links.js';
-import { notShown, tell, tellFault, waitFor } from '../ui/messages.js';
-import { arrived } from '../net/directory.js';
-import { closedIn } from '../net/door.js';
-import { hasNights, knowNights } from '../net/nights.js';
+import { notShown, tellFault, waitFor } from '../ui/messages.js';
+import { isWorking } from '../ui/working.js';
+import { arrived, people } from '../net/directory.js';
+import { detailsIn } from '../net/door.js';
+import { knowNights } from '../net/nights.js';
 import { learnEditing } from './editing.js';
 import { finder } from './find.js';
 import { markAllClosed } from './closed_rows.js';
+import { chooseFile, folderBar } from './folder_bar.js';
+import { columnsOf, fillRows } from './known.js';
 import { chosenOf, drawRows, newLook, shownOf } from './rows.js';
 import { tagSeen } from './safe_put.js';
-import { treeOfFiles } from './tree.js';
 import { replaceBy, uploadAll } from './upload.js';
 
 const ASKED = 'rxwaDtcCo';
-
-function fileField(label, properties, take) {
-  const input = element('input', {
-    type: 'file', hidden: true, 'aria-label': label, ...properties,
-  });
-  input.addEventListener('change', () => {
-    if (input.files.length > 0) take([...input.files]);
-    input.value = '';
-  });
-  return input;
-}
-
-// A press opens the browser's own choice of a file.
-function chooseFile(take) {
-  const input = fileField(texts.folder.newVersion, { class: 'version' }, ([file]) => {
-    input.remove();
-    take(file);
-  });
-  document.querySelector('input.version')?.remove();
-  document.body.append(input);
-  input.click();
-}
-
-// The buttons of the folder. What isn't granted is greyed out, and says so when it is pressed.
-function bar(path, send, make) {
-  const files = fileField(texts.folder.filesField, { multiple: true, class: 'files' },
-    (all) => send(all, [], path));
-  const whole = fileField(texts.folder.wholeField, { webkitdirectory: true, class: 'whole' },
-    (all) => send([], [treeOfFiles(all)], path));
-  const needs = [];
-  const act = (letter, mark, words, does, look) => {
-    const made = button([icon(mark), words], () => {
-      if (made.getAttribute('aria-disabled') === 'true') tell('bad', texts.folder.mayNot[letter]);
-      else does();
-    }, { class: look });
-    needs.push([letter, made]);
-    return made;
-  };
-  const earlier = element('a', { class: 'button', href: linkTo(path, 'earlier'), hidden: true },
-    texts.earlier.earlier);
-  const shown = element('div', { class: 'bar' },
-    element('h1', {}, path === '/' ? texts.places.all : nameText(api.nameOf(path))),
-    element('div', { class: 'actions' },
-      act('w', 'upload', texts.folder.upload, () => files.click(), 'primary'),
-      act('a', 'upload', texts.folder.uploadFolder, () => whole.click()),
-      act('a', 'plus', texts.folder.newFolder, make),
-      earlier,
-      element('a', { class: 'button', href: linkTo(path, 'access') }, icon('key'),
-        texts.folder.access)),
-    files, whole);
-  // In a folder whose contents aren't shown, what isn't granted isn't offered.
-  const grant = (may, isClosed = false) => {
-    for (const [letter, made] of needs) {
-      const lacks = may !== null && may[letter].ruling !== 'allowed';
-      made.setAttribute('aria-disabled', String(lacks));
-      made.hidden = lacks && isClosed;
-      if (lacks) made.title = texts.folder.mayNot[letter];
-      else made.removeAttribute('title');
-    }
-  };
-  const offer = () => { earlier.hidden = !hasNights(); };
-  return { shown, grant, offer };
-}
 
 // The filter, which also finds what is further down, and what can be done with what is selected.
 // Its place is kept when nothing is.
@@ -109,7 +48,7 @@ function tools(look, does, redraw, found) {
   const finding = finder(found.path, filter, { ...found, redraw });
   const shown = element('div', { class: 'tools' },
     element('div', { class: 'finding' }, filter, finding.press), chosen);
-  return { shown, tell };
+  return { shown, tell, filter };
 }
 
 // Where the focus is in the rows: {name, act, index}, or null.
@@ -132,9 +71,28 @@ function controlAt(table, { name, act, index = 0 }) {
 
 // An upload that was begun in one view may end while another one of the same folder is shown.
 let shownView = null;
+// What the room told of changes last, so that the next folder has its columns at once.
+let told = { shows: null, people: null };
 
 function shownAgain() {
-  if (shownView?.isCurrent()) shownView.refresh();
+  return shownView?.isCurrent() ? shownView.refresh() : null;
+}
+
+// The rows of an upload come as they are done, but not while somebody chooses something, and the
+// less often the longer it takes.
+const SOON = 1500;
+let isSoon = false;
+async function shownSoon() {
+  if (isSoon) return;
+  isSoon = true;
+  let pause = SOON;
+  do await new Promise((resolve) => { setTimeout(resolve, pause); });
+  while (document.querySelector('.menu, dialog[open]'));
+  const began = Date.now();
+  // At its end an upload shows them by itself.
+  if (isWorking()) await shownAgain();
+  pause = 4 * (Date.now() - began);
+  setTimeout(() => { isSoon = false; }, pause);
 }
 
 class FolderView {
@@ -142,11 +100,12 @@ class FolderView {
     this.path = path;
     this.box = box;
     this.isCurrent = isCurrent;
-    this.look = newLook();
+    this.look = { ...newLook(), ...told };
     this.body = element('div', { class: 'sheet' });
     this.places = element('div', { class: 'more-places' });
-    const send = (files, trees, folder) => uploadAll(files, trees, folder, shownAgain);
-    this.bar = bar(path, send, () => this.doing(() => acts.makeFolder(path)));
+    const send = (files, trees, folder) =>
+      uploadAll(files, trees, folder, shownAgain, shownSoon);
+    this.bar = folderBar(path, send, () => this.doing(() => acts.makeFolder(path)));
     this.tools = tools(this.look, (what) => this.withChosen(what), () => this.draw(), { path,
       place: this.body, here: () => this.objects(shownOf(this.look)) });
     this.area = element('section', { class: 'folder-view', 'aria-label': texts.folder.label },
@@ -168,6 +127,7 @@ class FolderView {
       move: (child) => this.doing(() => acts.move(path(child), child.kind)),
       remove: (children) => this.doing(() => acts.remove(this.objects(children))),
       copy: (child) => this.doing(() => acts.copyLink(path(child))),
+      find: () => this.tools.filter.focus(),
     };
   }
 
@@ -208,7 +168,7 @@ class FolderView {
     const may = api.can(this.path, ASKED).catch(() => null);
     try {
       const [children] = await waitFor(Promise.all([api.list(this.path), knowNights()]));
-      this.bar.offer();
+      this.bar.offer(this.look.shows);
       this.bar.grant(await may);
       if (!this.isCurrent()) return;
       this.look.children = children;
@@ -216,7 +176,7 @@ class FolderView {
       this.look.chosen = new Set([...this.look.chosen].filter((name) => names.has(name)));
       this.tools.shown.hidden = children.length === 0;
       this.draw(focus);
-      this.showShut();
+      this.showKnown();
       arrived(this.path, 'folder');
       learnEditing(children);
       if (this.path === '/') this.showPlaces();
@@ -227,11 +187,22 @@ class FolderView {
     }
   }
 
-  // What can't be opened is known a bit later.
-  async showShut() {
-    this.look.closed = await closedIn(this.path);
+  // What can't be opened, and what is known beside the names, comes a bit later.
+  async showKnown() {
+    const [details, names] = await Promise.all([detailsIn(this.path), people()]);
     if (!this.isCurrent()) return;
-    markAllClosed(this.body, this.look.closed, api.nameOf);
+    const { closed, known, shows = this.look.shows } = details;
+    const isOther = shows !== this.look.shows;
+    if (isOther && this.look.by !== 'name') this.look.by = 'name';
+    told = { shows, people: names };
+    Object.assign(this.look, told, { closed, known });
+    this.bar.offer(shows);
+    // Rows that are sorted by what is known only now have to be drawn anew.
+    if (isOther || columnsOf(shows).includes(this.look.by)) this.draw(placeIn(this.body));
+    else {
+      fillRows(this.body, this.look, api.nameOf);
+      markAllClosed(this.body, closed, api.nameOf);
+    }
   }
 
   // What can't be seen from the top, below its list.

@@ -26,7 +26,9 @@ function chooser(chosen, moved) {
       const inside = children.filter((child) => child.kind === 'folder')
         .map((child) => api.join(path, child.name)).filter((one) => !moved.includes(one));
       folders.replaceChildren(...above,
-        ...inside.map((one) => line('folder', nameText(api.nameOf(one)), one)));
+        ...inside.map((one) => line('folder', nameText(api.nameOf(one)), one)),
+        ...inside.length > 0 ? []
+          : [element('li', { class: 'hint' }, texts.moving.noFolders)]);
     } catch (fault) {
       folders.replaceChildren(...above, element('li', { class: 'hint' }, sentenceOf(fault)));
     }

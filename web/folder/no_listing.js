@@ -54,7 +54,8 @@ function line({ path, kind, rights = null }) {
 }
 
 const part = (title, places, ...more) => element('section', { class: 'part' },
-  element('h2', {}, title, ...more), element('ul', { class: 'places' }, places.map(line)));
+  element('div', { class: 'part-head' }, element('h2', {}, title), ...more),
+  element('ul', { class: 'places' }, places.map(line)));
 
 // What was given to me below a folder and can't be seen from it, and what I opened by its address.
 // 'isListed' says that the folder shows what is in it.

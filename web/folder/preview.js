@@ -54,7 +54,7 @@ function showInTab(bytes, name) {
 
 const pdfOf = (bytes, name) => element('div', { class: 'empty' },
   element('p', {}, texts.folder.pdf),
-  button(texts.folder.openInTab, () => showInTab(bytes, name), { class: 'primary' }));
+  button(texts.folder.openInTab, () => showInTab(bytes, name), { class: 'primary in-tab' }));
 
 function contentOf(bytes, name) {
   const ending = endingOf(name);
@@ -95,4 +95,6 @@ export async function showDocument(path, box, isCurrent) {
   if (!isCurrent()) return;
   box.replaceChildren(element('div', { class: 'shown-document' },
     contentOf(bytes, api.nameOf(path))));
+  // A browser opens a tab after a press alone: that is one key.
+  /** @type {any} */ (box.querySelector('.in-tab'))?.focus();
 }

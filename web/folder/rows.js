@@ -9,16 +9,19 @@ import { linkTo } from '../ui/links.js';
 import { menuButton } from '../ui/menu.js';
 import { hasNights } from '../net/nights.js';
 import { markClosed } from './closed_rows.js';
+import { columnsOf, headingOf, knownCells, knownLine } from './known.js';
 import { editingOf } from './editing.js';
 import { isPdf } from './preview.js';
 import { marked } from '../text/invisible.js';
 import { filtered, kindWords, sorted } from './sorting.js';
 
-// What is shown of a folder, and how. 'chosen' has names, and 'closed' those of what I can't open.
+// What is shown of a folder, and how. 'chosen' has names, and 'closed' those of what I can't open;
+// 'known' has by name what is told of it, 'shows' how much of that, and 'people' who they are.
 export const newLook = () => ({ children: [], by: 'name', down: false, filter: '',
-  chosen: new Set(), closed: new Set() });
+  chosen: new Set(), closed: new Set(), known: new Map(), shows: null, people: null });
 
-export const shownOf = (look) => sorted(filtered(look.children, look.filter), look.by, look.down);
+export const shownOf = (look) =>
+  sorted(filtered(look.children, look.filter), look.by, look.down, look);
 
 // What is chosen and shown. What the filter hides is never moved or removed with the rest.
 export const chosenOf = (look) => shownOf(look).filter(({ name }) => look.chosen.has(name));
@@ -41,6 +44,7 @@ function pickBox(child, look, changed) {
   box.addEventListener('change', () => {
     if (box.checked) look.chosen.add(child.name);
     else look.chosen.delete(child.name);
+    box.closest('tr').setAttribute('aria-selected', String(box.checked));
     changed();
   });
   return box;
@@ -66,9 +70,9 @@ function entriesOf(child, path, acts) {
 function actsOf(child, path, acts) {
   return [
     element('a', {
-      class: 'small button access', href: linkTo(path, 'access'),
-      'aria-label': texts.folder.accessOf(marked(child.name)), 'data-act': 'access',
-    }, texts.folder.access),
+      class: 'small button plain access', href: linkTo(path, 'access'), 'data-act': 'access',
+      title: texts.folder.access, 'aria-label': texts.folder.accessOf(marked(child.name)),
+    }, icon('key')),
     menuButton(texts.folder.actionsOf(marked(child.name)), () => entriesOf(child, path, acts), {
       class: 'small plain', title: texts.folder.actions, 'data-act': 'menu',
     }),
@@ -77,10 +81,13 @@ function actsOf(child, path, acts) {
 
 function row(child, folder, look, acts, changed) {
   const path = api.join(folder, child.name);
-  const made = element('tr', { 'data-kind': child.kind, 'data-path': path },
+  const known = look.known.get(child.name);
+  const made = element('tr', { 'data-kind': child.kind, 'data-path': path,
+    'aria-label': marked(child.name), 'aria-selected': String(look.chosen.has(child.name)) },
     element('td', { class: 'pick' }, pickBox(child, look, changed)),
-    element('td', { class: 'what' }, nameOf(child, path, acts)),
-    element('td', { class: 'kind' }, kindWords(child)),
+    element('td', { class: 'what' }, nameOf(child, path, acts), knownLine(known, look)),
+    look.shows === null ? element('td', { class: 'kind' }, kindWords(child)) : [],
+    knownCells(known, look),
     element('td', { class: 'acts' }, actsOf(child, path, acts)));
   if (look.closed.has(child.name)) markClosed(made);
   return made;
@@ -93,7 +100,16 @@ function heading(by, words, look, redraw) {
     redraw((table) => table.querySelector(`[data-sort="${by}"]`));
   }, { class: 'plain sort', 'data-sort': by });
   const direction = look.down ? 'descending' : 'ascending';
-  return element('th', { scope: 'col', 'aria-sort': isIt ? direction : 'none' }, sort);
+  return element('th', { scope: 'col', 'data-by': by, 'aria-sort': isIt ? direction : 'none' },
+    sort);
+}
+
+// By what the rows can be sorted: where nothing is known of changes, by kind.
+function headings(look, redraw) {
+  const others = look.shows === null ? [['kind', texts.folder.kind]]
+    : columnsOf(look.shows).map((by) => [by, headingOf(by)]);
+  return [['name', texts.acts.name], ...others]
+    .map(([by, words]) => heading(by, words, look, redraw));
 }
 
 function pickAll(look, redraw) {
@@ -111,7 +127,8 @@ function pickAll(look, redraw) {
   return box;
 }
 
-// So many rows are drawn, and more when somebody comes near the last one.
+// So many rows are drawn, and as many again when somebody comes near the last one: so the end of a
+// long folder is a few jumps away.
 const PORTION = 200;
 
 function growing(shown, rowOf, wanted) {
@@ -122,7 +139,7 @@ function growing(shown, rowOf, wanted) {
   growTo(Math.max(at, wanted?.index ?? 0) + PORTION);
   const end = element('div');
   new IntersectionObserver(([{ isIntersecting }]) => {
-    if (isIntersecting) growTo(rows.childElementCount + PORTION);
+    if (isIntersecting) growTo(2 * rows.childElementCount);
   }, { rootMargin: '2000px' }).observe(end);
   return { rows, end, growTo };
 }
@@ -147,8 +164,8 @@ export function drawRows(body, folder, look, acts, onChosen, focusOn = null, wan
     (child) => row(child, folder, look, acts, changed), wanted);
   const table = element('table', { class: 'folder', role: 'grid', 'aria-multiselectable': 'true' },
     element('caption', { class: 'unseen' }, texts.folder.caption),
-    element('thead', {}, element('tr', {}, all, heading('name', texts.acts.name, look, redraw),
-      heading('kind', texts.folder.kind, look, redraw), element('th', { scope: 'col' },
+    element('thead', {}, element('tr', {}, all, headings(look, redraw),
+      element('th', { scope: 'col' },
         element('span', { class: 'unseen' }, texts.folder.whatCanBeDone)))), rows);
   body.replaceChildren(table, end);
   const ofRow = (does) => ({ rowIndex }) => does(shown[rowIndex - 1]);
@@ -157,7 +174,10 @@ export function drawRows(body, folder, look, acts, onChosen, focusOn = null, wan
     const chosen = chosenOf(look);
     acts.remove(chosen.length > 0 ? chosen : [child]);
   };
-  rove(rows, { F2: ofRow(acts.move), Delete: ofRow(remove), End: () => growTo(shown.length) });
+  // A single sign means something only while the focus is in the rows: who speaks to the machine
+  // sets off nothing elsewhere.
+  rove(rows, { F2: ofRow(acts.move), Delete: ofRow(remove), End: () => growTo(shown.length),
+    '/': acts.find });
   onChosen();
   focusOn?.(table)?.focus();
 }

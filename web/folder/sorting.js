@@ -1,6 +1,7 @@
 // In which order the contents of a folder are shown, and which of them.
 
 import { language, texts } from '../language/language.js';
+import { fullName } from '../net/directory.js';
 
 const reading = new Intl.Collator(language, { numeric: true });
 const isFolder = ({ kind }) => kind === 'folder';
@@ -20,9 +21,29 @@ function byKind(one, other) {
   return reading.compare(kindWords(one), kindWords(other));
 }
 
-// By 'name' folders come first in either direction, as people expect.
-export function sorted(children, by = 'name', down = false) {
+const VALUES = {
+  when: (one) => one?.when ?? one?.before, size: (one) => one?.size,
+  who: (one, people) => (one?.who === undefined ? undefined : fullName(people, one.who)),
+};
+export const isKnown = (by) => Object.hasOwn(VALUES, by);
+
+// The newest and the largest first. What isn't known comes last, in either direction.
+function byKnown(by, turn, { known, people }) {
+  const value = ({ name }) => VALUES[by](known.get(name), people);
+  const compare = (one, other) => (by === 'who' ? reading.compare(one, other) : other - one);
+  return (one, other) => {
+    const [first, second] = [value(one), value(other)];
+    const lacks = Number(first === undefined) - Number(second === undefined);
+    if (lacks !== 0 || first === undefined) return lacks || byName(one, other);
+    return turn * compare(first, second) || byName(one, other);
+  };
+}
+
+// By 'name' folders come first in either direction, as people expect. 'told' is what is known of
+// them, and who people are.
+export function sorted(children, by = 'name', down = false, told = null) {
   const turn = down ? -1 : 1;
+  if (told !== null && isKnown(by)) return [...children].sort(byKnown(by, turn, told));
   const order = by === 'kind'
     ? (one, other) => turn * byKind(one, other) || byName(one, other)
     : (one, other) => Number(isFolder(other)) - Number(isFolder(one)) || turn * byName(one, other);

@@ -7,8 +7,9 @@ import { button } from '../ui/dom.js';
 import { documentLine, faultOf, normal, treeLine } from './jobs.js';
 import { tell, tellFault } from '../ui/messages.js';
 import { newPanel } from '../ui/panel.js';
+import { asWork } from '../ui/working.js';
 import { askingInTurn, freeBeside } from './replacing.js';
-import { hasSame, putSafely, tagSeen } from './safe_put.js';
+import { hasSame, putSafely, tagNow, tagSeen } from './safe_put.js';
 import { nameFault, placeWords, sentenceOf } from '../text/words.js';
 
 // The room answers one request after the other, so more at once would not be quicker.
@@ -38,13 +39,16 @@ async function isKept({ path, file, made }) {
 }
 
 const LEFT = { state: 'bad', words: texts.upload.left };
-let running = 0;
-export const isUploading = () => running > 0;
+
+// What a request that failed is told as. nginx lets only so many through.
+const wordsOf = (refusal) => (refusal.status === 429 && !refusal.body?.why
+  ? texts.upload.tooMuch : sentenceOf(refusal));
 
 class Upload {
   constructor(files, trees, folder) {
     this.folder = folder;
     this.onEnd = () => {};
+    this.onSome = () => {};
     this.lines = [...files.map((file) => documentLine(file, folder)),
       ...trees.map((tree) => treeLine(tree, folder))];
     this.jobs = this.lines.flatMap(({ jobs }) => jobs);
@@ -52,10 +56,11 @@ class Upload {
     this.ask = askingInTurn(this.jobs.length);
     this.close = button(texts.acts.close, () => this.panel.remove(),
       { class: 'small', hidden: true });
-    this.again = button(texts.acts.tryAgain, () => this.run(),
+    this.again = button(texts.acts.tryAgain, () => asWork(this.run()),
       { class: 'small', hidden: true });
-    this.panel = newPanel(texts.upload.title, texts.upload.to(placeWords(folder)), this.again,
-      this.close);
+    this.stop = button(texts.acts.stop, () => this.halt(), { class: 'small', hidden: true });
+    this.panel = newPanel(texts.upload.title, texts.upload.to(placeWords(folder)), this.stop,
+      this.again, this.close);
     this.panel.rows.append(...this.lines.map(({ line }) => line));
   }
 
@@ -74,6 +79,7 @@ class Upload {
     faults.length = 0;
     const isIn = (path, above) => path.startsWith(`${above}/`);
     for (const name of tree.folders.map(normal)) {
+      if (this.isStopped) return;
       if (faults.some((above) => isIn(name, above.name))) continue;
       const words = await makeOne(name, this.folder);
       if (words !== null) faults.push({ name, words });
@@ -86,20 +92,37 @@ class Upload {
     draw();
   }
 
+  // Asks about a document of that name that is there. Where somebody changed what this browser gave
+  // out, only that is asked, when it is sent. Returns whether it is to be sent.
+  async mayReplace(job) {
+    const [seen, now] = [await tagSeen(job.path), await tagNow(job.path)];
+    job.seen = seen;
+    job.isThere = now !== null && now !== seen;
+    if (job.isThere) return true;
+    const answer = await this.ask({ name: job.name, path: job.path, why: 'exists' });
+    if (answer === 'both') job.path = await freeBeside(job.path);
+    job.isThere = answer === 'replace';
+    return answer !== 'leave';
+  }
+
   async sendOne(job) {
     const fault = faultOf(job);
     if (fault) return this.set(job, { state: 'bad', words: fault });
-    if (!job.allowed && await api.isThere(job.path)) {
-      job.seen = await tagSeen(job.path);
-      const answer = await this.ask({ name: job.name, path: job.path, why: 'exists' });
-      if (answer === 'leave') return this.set(job, LEFT);
-      if (answer === 'both') job.path = await freeBeside(job.path);
-      job.isThere = answer === 'replace';
+    if (!job.allowed && await api.isThere(job.path) && !(await this.mayReplace(job))) {
+      return this.set(job, LEFT);
     }
     this.set(job, { state: 'runs', allowed: true });
     const made = await putSafely(job, job.isThere === true, this.ask, (sent, whole) =>
       this.set(job, { part: whole === 0 ? 1 : sent / whole }));
-    return this.set(job, made === null ? LEFT : { state: 'good', made });
+    this.set(job, made === null ? LEFT : { state: 'good', made });
+    return this.onSome();
+  }
+
+  // What is on its way arrives; the rest isn't sent, and can be later.
+  halt() {
+    this.isStopped = true;
+    this.stop.hidden = true;
+    this.cut(this.queue ?? []);
   }
 
   cut(queue) {
@@ -114,7 +137,7 @@ class Upload {
       try {
         await this.sendOne(job);
       } catch (refusal) {
-        this.set(job, { state: 'bad', words: sentenceOf(refusal), again: true });
+        this.set(job, { state: 'bad', words: wordsOf(refusal), again: true });
         if (refusal.status === 401) tellFault(refusal);
         if (endsAll(refusal)) this.cut(queue);
       }
@@ -138,8 +161,8 @@ class Upload {
 
   // Sends what wasn't sent yet, or failed and may be tried again.
   async run() {
-    running += 1;
     this.again.hidden = this.close.hidden = true;
+    this.stop.hidden = this.isStopped = false;
     for (const job of this.withState('bad').filter(({ again }) => again)) {
       this.set(job, { state: 'waits', words: '', part: 0, again: false });
     }
@@ -151,20 +174,26 @@ class Upload {
       tellFault(refusal);
       this.cut(this.withState('waits'));
     }
-    const queue = this.withState('waits');
-    await Promise.all(Array.from({ length: AT_ONCE }, () => this.sendInTurn(queue)));
+    this.queue = this.withState('waits');
+    if (this.isStopped) this.cut(this.queue);
+    await Promise.all(Array.from({ length: AT_ONCE }, () => this.sendInTurn(this.queue)));
     this.interrupted ||= interruptionsSeen() !== seen;
     if (this.interrupted && !this.isCut) await this.lookAgain();
-    running -= 1;
     this.end();
+  }
+
+  endWords(isWhole, bad) {
+    const all = this.jobs.length;
+    if (isWhole) return texts.upload.done(all);
+    return this.isStopped ? texts.upload.stopped(all - bad, all) : texts.upload.failed(bad, all);
   }
 
   end() {
     const bad = this.withState('bad');
     const whole = bad.length === 0 && this.lines.every(({ faults = [] }) => faults.length === 0);
     this.panel.show(this.jobs.length, this.jobs.length);
-    this.panel.say(whole ? texts.upload.done(this.jobs.length)
-      : texts.upload.failed(bad.length, this.jobs.length));
+    this.panel.say(this.endWords(whole, bad.length));
+    this.stop.hidden = true;
     this.again.hidden = !bad.some(({ again }) => again);
     this.close.hidden = false;
     if (whole) this.panel.leave();
@@ -173,11 +202,12 @@ class Upload {
 }
 
 // Sends files and trees into the folder. The progress is shown beside whatever is open meanwhile.
-// 'onEnd' is called when all have ended, and again after each further try.
-export async function uploadAll(files, trees, folder, onEnd) {
+// 'onEnd' is called when all have ended, and again after each further try, and 'onSome' when one
+// has arrived.
+export async function uploadAll(files, trees, folder, onEnd, onSome) {
   const upload = new Upload(files, trees, folder);
-  upload.onEnd = onEnd;
-  await upload.run();
+  Object.assign(upload, { onEnd, onSome });
+  await asWork(upload.run());
 }
 
 // Sends a file, whatever its name is, in the place of a document, which was chosen for that and of
@@ -186,5 +216,5 @@ export async function replaceBy(file, path, seen, onEnd) {
   const upload = new Upload([new File([file], api.nameOf(path))], [], api.parentOf(path));
   Object.assign(upload.jobs[0], { path, seen, allowed: true, isThere: true });
   upload.onEnd = onEnd;
-  await upload.run();
+  await asWork(upload.run());
 }

@@ -4,7 +4,9 @@ import { DE_ACCESS, DE_OUTCOME } from './de_access.js';
 import { DE_EARLIER } from './de_earlier.js';
 import { DE_FAULTS } from './de_faults.js';
 import { DE_FIND, DE_FOLDER, DE_MOVING, DE_UPLOAD } from './de_folder.js';
+import { DE_HELP } from './de_help.js';
 import { DE_ADVANCED, DE_RIGHTS, DE_WARNINGS } from './de_lists.js';
+import { DE_MOMENTS } from './de_moments.js';
 import { DE_READY } from './de_ready.js';
 import { EVERYONE, OTHERS, SIGNED_IN, verb } from './de_people.js';
 import { formsOf } from './forms.js';
@@ -201,6 +203,7 @@ const ACCOUNT = {
 export const DE = {
   lists: LISTS, who: WHO, names: NAMES, places: PLACES, page: PAGE, acts: ACTS,
   messages: MESSAGES, picker: PICKER, ask: ASK, changed: CHANGED, account: ACCOUNT,
+  moments: DE_MOMENTS, help: DE_HELP,
   folder: DE_FOLDER, find: DE_FIND, moving: DE_MOVING, upload: DE_UPLOAD, rights: DE_RIGHTS,
   faults: DE_FAULTS, warnings: DE_WARNINGS, access: DE_ACCESS, outcome: DE_OUTCOME,
   advanced: DE_ADVANCED, ready: DE_READY, earlier: DE_EARLIER,

@@ -115,6 +115,15 @@ export const DE_ACCESS = {
     `Der Zugriff für ${name} endet am ${day}, soweit der nächtliche Lauf es kann.`,
   lastDay: (name) => `Letzter Tag von ${name}`,
   lastDayOfGroup: (name) => `Letzter Tag der Gruppe ${name}`,
+  removesNothing: (level) => `${level}, entfernt hier nichts`,
+  removesNoFolders: (level) => `${level}, entfernt hier keine Ordner`,
+  letRemoveHere: 'Auch hier entfernen lassen',
+  letRemoveHereFor: (name) => `${name} auch hier entfernen lassen`,
+  letRemoveTitle: 'Auch hier entfernen lassen?',
+  letThem: 'Entfernen lassen',
+  letAllTheSame: 'Trotzdem entfernen lassen',
+  letRemoveSays: (name, level) => `Durch den Ordner darüber gilt für ${name}: „${level}“. Was `
+    + 'andere angelegt haben, bleibt hier an seinem Ort; dann nicht mehr für diese.',
   set: 'Setzen',
   noEnd: 'kein Ende',
   onTheWay: (names) => `Nur auf dem Weg zu etwas weiter unten: ${and(names)}`,
@@ -183,6 +192,8 @@ export const DE_ACCESS = {
     + 'Weg“.',
   lineChanged: (place) => `Jemand hat ${place} inzwischen geändert: Die Zeile dort bleibt.`,
   lineStays: (place) => `Die Zeile bei ${place} bleibt.`,
+  notAdded: (place) => `Jemand hat ${place} inzwischen geändert: dort wurde nichts geändert.`,
+  notAddedAt: (place) => `In ${place} wurde nichts geändert.`,
   takenBack: 'Was zuerst gesendet worden war, wurde zurückgenommen.',
   replaces: 'Sie tritt an die Stelle dieser Liste. Sie sehen, was sich ändert, bevor sie gesendet '
     + 'wird.',
@@ -218,11 +229,13 @@ export const DE_OUTCOME = {
   loses: (from, to, kind, removals) => `jetzt ${named(from, kind)}, dann ${
     withRemovals(to, kind, removals)}`,
   losesAll: (from, kind) => `kein Zugriff mehr (jetzt ${named(from, kind)})`,
+  losesByList: (from, kind) => `kein Zugriff mehr durch diese Liste (jetzt ${named(from, kind)})`,
   keeps: withRemovals,
   keepsRemoving: (removals) => `möglich: ${and(removing(removals))}`,
   keepsMore: (places) => `etwas an ${count(places, 'weiterer Stelle', 'weiteren Stellen')}`,
   changesMore: (places) => (places === 1 ? '1 weitere Stelle weiter unten ändert sich'
     : `${number(places)} weitere Stellen weiter unten ändern sich`),
+  showAll: 'Alle zeigen',
   nobody: 'Niemand erhält oder verliert etwas',
   nobodyNow: 'dadurch, nach jetzigem Stand.',
   nobodyLoses: 'Niemand verliert',
@@ -252,6 +265,12 @@ export const DE_OUTCOME = {
     + 'darf. Nichts weiter unten braucht das noch.',
   takePassingPerhaps: (name, places) => `Auch zurücknehmen, dass ${name} durch ${and(places)} `
     + 'durchgehen darf. Es ist nicht bekannt, ob etwas weiter unten das braucht.',
+  letRemoveAt: (names, places, isFolder) => `Von ${and(names)} auch dort ${
+    isFolder ? 'Ordner' : 'alles'} entfernen lassen, was andere angelegt haben, wo es an seinem `
+    + `Ort bleibt: ${and(places)}. Sonst geht es nicht.`,
+  removesNotAt: (names, places, isFolder) => `${capital(and(names))}: ${
+    isFolder ? 'Ordner, die andere' : 'was andere'} in ${and(places)} angelegt haben, ${
+    isFolder ? 'können' : 'kann'} dort nicht entfernt werden. Wer das verwaltet, kann es ändern.`,
   moves: 'Wer etwas entfernen darf, kann es auch in einen eigenen Ordner verschieben und dort '
     + 'öffnen, auch wenn es sich hier nicht öffnen lässt. Wofür „Nur diese Personen“ gilt, das '
     + 'bleibt verschlossen.',

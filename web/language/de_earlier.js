@@ -26,7 +26,8 @@ export const DE_EARLIER = {
   putBackOf: (name) => `${name} zurücklegen`,
   putBackMissing: 'Zurücklegen, was fehlt',
   headings: ['Name', 'Art', 'Jetzt', 'Was man tun kann'],
-  caption: 'Was in dieser Nacht in diesem Ordner war, und was jetzt da ist.',
+  caption: 'Was in dieser Nacht in diesem Ordner war, und was jetzt da ist.'
+    + ' Die Pfeiltasten gehen von Zeile zu Zeile.',
   still: 'noch da',
   anotherKind: 'etwas anderes hat diesen Namen',
   goneNow: 'nicht mehr da',
@@ -59,25 +60,25 @@ export const DE_EARLIER = {
   },
   question: (name) => `${name} zurücklegen?`,
   asOf: (time) => `Stand ${moment(time)}:`,
-  missing: (many) => (many === 1
-    ? '1 Objekt, das fehlt, kommt als Ihres zurück und folgt der Zugriffsliste seines Ordners.'
-    : `${objects(many)}, die fehlen, kommen als Ihre zurück und folgen der Zugriffsliste ihres `
-      + 'Ordners.'),
+  missing: (many) => (many === 1 ? '1 Objekt, das fehlt, kommt als Ihres zurück.'
+    : `${objects(many)}, die fehlen, kommen als Ihre zurück.`),
+  following: 'Was zurückkommt, folgt der Zugriffsliste seines Ordners.',
   there: (many) => (many === 1
     ? '1 Dokument ist noch da: Wird es ersetzt, ist sein jetziger Inhalt verloren, und sein '
       + 'Zugriff bleibt.'
     : `${count(many, 'Dokument', 'Dokumente')} sind noch da: Werden sie ersetzt, ist ihr jetziger `
       + 'Inhalt verloren, und ihr Zugriff bleibt.'),
-  closed: (many) => (many === 1
-    ? '1 Objekt hatte eine eigene Zugriffsliste, die nicht zurückkommt: Jeder, der den Ordner '
-      + 'lesen darf, wird es lesen.'
-    : `${objects(many)} hatten eigene Zugriffslisten, die nicht zurückkommen: Jeder, der den `
-      + 'Ordner lesen darf, wird sie lesen.'),
-  perhapsClosed: (many) => (many === 1
-    ? '1 Objekt hatte vielleicht eine eigene Zugriffsliste, die Sie nicht sehen und die nicht '
-      + 'zurückkommt: Jeder, der den Ordner lesen darf, wird es lesen.'
-    : `${objects(many)} hatten vielleicht eigene Zugriffslisten, die Sie nicht sehen und die nicht `
-      + 'zurückkommen: Jeder, der den Ordner lesen darf, wird sie lesen.'),
+  // Wer mehr lesen könnte als in jener Nacht, käme es zurück, wie sein Ordner ist.
+  opens: (names, many) => `Für ${and(names)} ${many === 1 ? 'war' : 'waren'} in jener Nacht ${
+    objects(many)} davon nicht lesbar; wie der Ordner jetzt ist, doch.`,
+  perhapsOpens: (many) => `Sie sehen nicht, wer in jener Nacht ${objects(many)} davon lesen `
+    + 'konnte: Wer den Ordner jetzt lesen darf, wird es können.',
+  whoReads: 'Wer lesen darf, was zurückkommt',
+  alone: 'Nur ich',
+  peopleThen: (names) => `Die Leute jener Nacht: ${and(names)}`,
+  peopleNow: 'Wer den Ordner jetzt lesen darf',
+  staysShut: (places) => `${and(places)} bleibt für Sie allein offen: Die Liste jener Nacht konnte `
+    + 'nicht gesetzt werden.',
   onlyMissing: 'Nur was fehlt',
   allOfIt: 'Alles, und ersetzen, was da ist',
   replace: 'Ersetzen, was da ist',

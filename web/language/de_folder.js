@@ -23,6 +23,8 @@ export const DE_FOLDER = {
     a: 'Sie dürfen hier keine Ordner anlegen.',
   },
   upload: 'Hochladen',
+  add: 'Hinzufügen',
+  more: 'Mehr',
   uploadFolder: 'Ordner hochladen',
   filesField: 'Dokumente zum Hochladen',
   wholeField: 'Ordner zum Hochladen',
@@ -52,6 +54,7 @@ export const DE_FOLDER = {
   renameOrMove: 'Umbenennen oder verschieben',
   taken: 'Es gibt schon etwas dieses Namens. Wählen Sie einen anderen.',
   amount: amountOf,
+  mayNotRename: (place) => `Sie dürfen ${place} nicht umbenennen.`,
   mayNotRemove: (place) => `Sie dürfen ${place} nicht entfernen, also wurde nichts entfernt.`,
   removeFolder: 'Den Ordner entfernen?',
   removeDocument: 'Das Dokument entfernen?',
@@ -122,6 +125,7 @@ const objectsIn = (names, isFolder) =>
 export const DE_MOVING = {
   into: (place) => ['In ', place],
   above: 'Der übergeordnete Ordner',
+  noFolders: 'Keine Ordner darin.',
   folder: 'Ordner',
   folders: 'Ordner',
   renameFolder: 'Den Ordner umbenennen oder verschieben',
@@ -200,6 +204,8 @@ export const DE_UPLOAD = {
   noFolder: 'sein Ordner konnte nicht angelegt werden',
   left: 'blieb, wie es war',
   notSent: 'nicht gesendet',
+  tooMuch: 'nicht gesendet, weil es zu viel auf einmal war: Warten Sie eine Minute, und drücken '
+    + 'Sie dann „Fehlgeschlagenes erneut versuchen“',
   lost: 'es wurde hochgeladen, aber der Raum hat es nicht mehr',
   interrupted: (many) => 'Der Raum wurde während des Hochladens unterbrochen, und '
     + `${documents(many)}, ${many === 1 ? 'das' : 'die'} er schon hatte, ${
@@ -207,6 +213,8 @@ export const DE_UPLOAD = {
     + 'zurückgesetzt: Fragen Sie den Administrator, was sonst noch weg ist, und versuchen Sie das '
     + 'Fehlgeschlagene erneut.',
   done: (whole) => `${documents(whole)} hochgeladen.`,
+  stopped: (good, whole) => `Angehalten: ${number(good)} von ${
+    count(whole, 'Dokument', 'Dokumenten')} hochgeladen.`,
   failed: (bad, whole) => `${number(bad)} von ${
     count(whole, 'Dokument', 'Dokumenten')} fehlgeschlagen.`,
   folderIntoDocument: (name) => `Ein Ordner kann nicht in ein Dokument gelegt werden, und ${name} `

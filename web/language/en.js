@@ -4,7 +4,9 @@ import { EN_ACCESS, EN_OUTCOME } from './en_access.js';
 import { EN_EARLIER } from './en_earlier.js';
 import { EN_FAULTS } from './en_faults.js';
 import { EN_FIND, EN_FOLDER, EN_MOVING, EN_UPLOAD } from './en_folder.js';
+import { EN_HELP } from './en_help.js';
 import { EN_ADVANCED, EN_RIGHTS, EN_WARNINGS } from './en_lists.js';
+import { EN_MOMENTS } from './en_moments.js';
 import { EN_READY } from './en_ready.js';
 import { formsOf } from './forms.js';
 
@@ -190,6 +192,7 @@ const ACCOUNT = {
 export const EN = {
   lists: LISTS, who: WHO, names: NAMES, places: PLACES, page: PAGE, acts: ACTS,
   messages: MESSAGES, picker: PICKER, ask: ASK, changed: CHANGED, account: ACCOUNT,
+  moments: EN_MOMENTS, help: EN_HELP,
   folder: EN_FOLDER, find: EN_FIND, moving: EN_MOVING, upload: EN_UPLOAD, rights: EN_RIGHTS,
   faults: EN_FAULTS, warnings: EN_WARNINGS, access: EN_ACCESS, outcome: EN_OUTCOME,
   advanced: EN_ADVANCED, ready: EN_READY, earlier: EN_EARLIER,

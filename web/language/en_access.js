@@ -101,6 +101,15 @@ export const EN_ACCESS = {
     `The access of ${name} ends on ${day}, as far as the nightly run can.`,
   lastDay: (name) => `Last day of ${name}`,
   lastDayOfGroup: (name) => `Last day of the group ${name}`,
+  removesNothing: (level) => `${level}, removes nothing here`,
+  removesNoFolders: (level) => `${level}, removes no folders here`,
+  letRemoveHere: 'Let them remove here too',
+  letRemoveHereFor: (name) => `Let ${name} remove here too`,
+  letRemoveTitle: 'Let them remove here too?',
+  letThem: 'Let them',
+  letAllTheSame: 'Let them all the same',
+  letRemoveSays: (name, level) => `By the folder above, ${name} has “${level}”. What others made `
+    + 'is kept in place here; then it isn’t for them.',
   set: 'Set',
   noEnd: 'no end',
   onTheWay: (names) => `Only on the way to something further down: ${and(names)}`,
@@ -164,6 +173,8 @@ export const EN_ACCESS = {
     + 'through now, which couldn’t be taken back. Do that there, under “Only on the way”.',
   lineChanged: (place) => `Somebody changed ${place} meanwhile: its line stays.`,
   lineStays: (place) => `The line at ${place} stays.`,
+  notAdded: (place) => `Somebody changed ${place} meanwhile: nothing was changed there.`,
+  notAddedAt: (place) => `Nothing was changed at ${place}.`,
   takenBack: 'What was sent first was taken back.',
   replaces: 'It takes the place of this list. You see what changes before it is sent.',
   takeList: 'Take this list',
@@ -197,10 +208,12 @@ export const EN_OUTCOME = {
   loses: (from, to, kind, removals) => `${shortOf(from, kind)} now, then ${
     withRemovals(to, kind, removals)}`,
   losesAll: (from, kind) => `no access any more (${shortOf(from, kind)} now)`,
+  losesByList: (from, kind) => `no access any more by this list (${shortOf(from, kind)} now)`,
   keeps: withRemovals,
   keepsRemoving: (removals) => `can ${and(removing(removals))}`,
   keepsMore: (places) => `something at ${count(places, 'more place', 'more places')}`,
   changesMore: (places) => `${count(places, 'more place', 'more places')} further down change`,
+  showAll: 'Show all',
   nobody: 'Nobody gains or loses anything',
   nobodyNow: 'by this now.',
   nobodyLoses: 'Nobody loses',
@@ -227,6 +240,12 @@ export const EN_OUTCOME = {
     + 'any more.',
   takePassingPerhaps: (name, places) => `Also take back that ${name} may pass through ${
     and(places)}. It isn’t known whether something further down needs it.`,
+  letRemoveAt: (names, places, isFolder) => `Also let ${and(names)} remove ${
+    isFolder ? 'folders that' : 'what'} others made at ${and(places)}, where ${
+    isFolder ? 'they are' : 'it is'} kept in place. Otherwise they can’t.`,
+  removesNotAt: (names, places, isFolder) => `${capital(and(names))} can’t remove ${
+    isFolder ? 'folders that' : 'what'} others made at ${and(places)}: whoever manages that can `
+    + 'change it.',
   moves: 'Whoever may remove something can also move it to a folder of their own and open it '
     + 'there, even if they can’t open it here. What is set to “Only these people” stays shut.',
   cantGet: (names, place) => `${capital(and(names))} can’t get here: ${place} doesn’t let them `

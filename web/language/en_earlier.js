@@ -1,6 +1,6 @@
 // What was there on an earlier night, and how it comes back, in English.
 
-import { formsOf } from './forms.js';
+import { capital, formsOf } from './forms.js';
 
 const LOCALE = 'en-GB';
 const { count, and } = formsOf(LOCALE, 'and', 'or');
@@ -26,7 +26,8 @@ export const EN_EARLIER = {
   putBackOf: (name) => `Put ${name} back`,
   putBackMissing: 'Put back what is missing',
   headings: ['Name', 'Kind', 'Now', 'What can be done'],
-  caption: 'What was in this folder that night, and what is there now.',
+  caption: 'What was in this folder that night, and what is there now.'
+    + ' The arrow keys go from row to row.',
   // What is there now of a row.
   still: 'still there',
   anotherKind: 'something else has this name',
@@ -59,24 +60,24 @@ export const EN_EARLIER = {
   // Before something comes back.
   question: (name) => `Put ${name} back?`,
   asOf: (time) => `As of ${moment(time)}:`,
-  missing: (many) => (many === 1
-    ? '1 object that is missing comes back as yours, and follows the access list of its folder.'
-    : `${objects(many)} that are missing come back as yours, and follow the access list of their `
-      + 'folder.'),
+  missing: (many) => (many === 1 ? '1 object that is missing comes back as yours.'
+    : `${objects(many)} that are missing come back as yours.`),
+  following: 'What comes back follows the access list of its folder.',
   there: (many) => (many === 1
     ? '1 document is still there: replaced, what is in it now is lost, and its access stays.'
     : `${count(many, 'document', 'documents')} are still there: replaced, what is in them now is `
       + 'lost, and their access stays.'),
-  closed: (many) => (many === 1
-    ? '1 object had an access list of its own, which doesn’t come back: everybody who may read the '
-      + 'folder will read it.'
-    : `${objects(many)} had access lists of their own, which don’t come back: everybody who may `
-      + 'read the folder will read them.'),
-  perhapsClosed: (many) => (many === 1
-    ? '1 object may have had an access list of its own, which you can’t see and which doesn’t come '
-      + 'back: everybody who may read the folder will read it.'
-    : `${objects(many)} may have had access lists of their own, which you can’t see and which `
-      + 'don’t come back: everybody who may read the folder will read them.'),
+  // Who could read more than on that night, if it came back as its folder is.
+  opens: (names, many) => `${capital(and(names))} couldn’t read ${objects(many)} of it that night, `
+    + 'and may as the folder is now.',
+  perhapsOpens: (many) => `You can’t see who could read ${objects(many)} of it that night: whoever `
+    + 'may read the folder now will.',
+  whoReads: 'Who may read what comes back',
+  alone: 'I alone',
+  peopleThen: (names) => `The people of that night: ${and(names)}`,
+  peopleNow: 'Whoever may read the folder now',
+  staysShut: (places) => `${and(places)} stays open to you alone: its list of that night couldn’t `
+    + 'be set.',
   onlyMissing: 'Only what is missing',
   allOfIt: 'All, and replace what is there',
   replace: 'Replace what is there',

@@ -20,6 +20,8 @@ export const EN_FOLDER = {
     a: 'You may not make folders here.',
   },
   upload: 'Upload',
+  add: 'Add',
+  more: 'More',
   uploadFolder: 'Upload a folder',
   filesField: 'Documents to upload',
   wholeField: 'Folder to upload',
@@ -48,6 +50,7 @@ export const EN_FOLDER = {
   renameOrMove: 'Rename or move',
   taken: 'There is already something of this name. Choose another one.',
   amount: amountOf,
+  mayNotRename: (place) => `You may not rename ${place}.`,
   mayNotRemove: (place) => `You may not remove ${place}, so nothing was removed.`,
   removeFolder: 'Remove the folder?',
   removeDocument: 'Remove the document?',
@@ -120,6 +123,7 @@ const INSIDE = ' and what is in it, apart from what is protected';
 export const EN_MOVING = {
   into: (place) => ['In ', place],
   above: 'The folder above',
+  noFolders: 'No folders in it.',
   folder: 'Folder',
   folders: 'Folders',
   renameFolder: 'Rename or move the folder',
@@ -193,12 +197,15 @@ export const EN_UPLOAD = {
   noFolder: 'its folder couldn’t be made',
   left: 'left as it was',
   notSent: 'not sent',
+  tooMuch: 'not sent, since too much was asked for at once: wait a minute, then press “Try the '
+    + 'failed ones again”',
   lost: 'it was uploaded, but the room doesn’t have it any more',
   interrupted: (many) => 'The room was interrupted during the upload, and '
     + `${documents(many)} that it had taken ${many === 1 ? 'is' : 'are'} gone. It was probably set `
     + 'back to an earlier copy: ask the administrator what else is gone, and try the failed ones '
     + 'again.',
   done: (whole) => `${documents(whole)} uploaded.`,
+  stopped: (good, whole) => `Stopped: ${number(good)} of ${documents(whole)} uploaded.`,
   failed: (bad, whole) => `${documents(bad)} of ${number(whole)} failed.`,
   folderIntoDocument: (name) => `A folder can’t be put into a document, and ${name} is one. Drop `
     + 'it on a folder, or beside the rows.',

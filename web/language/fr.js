@@ -5,7 +5,9 @@ import { FR_ACCESS, FR_OUTCOME } from './fr_access.js';
 import { FR_EARLIER } from './fr_earlier.js';
 import { FR_FAULTS } from './fr_faults.js';
 import { FR_FIND, FR_FOLDER, FR_MOVING, FR_UPLOAD } from './fr_folder.js';
+import { FR_HELP } from './fr_help.js';
 import { FR_ADVANCED, FR_RIGHTS, FR_WARNINGS } from './fr_lists.js';
+import { FR_MOMENTS } from './fr_moments.js';
 import { FR_READY } from './fr_ready.js';
 
 const { number, and, or, count, day } = formsOf('fr', 'et', 'ou');
@@ -196,6 +198,7 @@ const ACCOUNT = {
 export const FR = {
   lists: LISTS, who: WHO, names: NAMES, places: PLACES, page: PAGE, acts: ACTS,
   messages: MESSAGES, picker: PICKER, ask: ASK, changed: CHANGED, account: ACCOUNT,
+  moments: FR_MOMENTS, help: FR_HELP,
   folder: FR_FOLDER, find: FR_FIND, moving: FR_MOVING, upload: FR_UPLOAD, rights: FR_RIGHTS,
   faults: FR_FAULTS, warnings: FR_WARNINGS, access: FR_ACCESS, outcome: FR_OUTCOME,
   advanced: FR_ADVANCED, ready: FR_READY, earlier: FR_EARLIER,

@@ -112,6 +112,15 @@ export const FR_ACCESS = {
     `L’accès pour ${name} finit le ${day}, autant que le traitement de nuit le peut.`,
   lastDay: (name) => `Dernier jour : ${name}`,
   lastDayOfGroup: (name) => `Dernier jour : le groupe ${name}`,
+  removesNothing: (level) => `${level}, n’enlève rien ici`,
+  removesNoFolders: (level) => `${level}, n’enlève pas de dossiers ici`,
+  letRemoveHere: 'Laisser enlever ici aussi',
+  letRemoveHereFor: (name) => `Laisser ${name} enlever ici aussi`,
+  letRemoveTitle: 'Laisser enlever ici aussi ?',
+  letThem: 'Laisser enlever',
+  letAllTheSame: 'Laisser enlever quand même',
+  letRemoveSays: (name, level) => `Par le dossier parent, ${name} a « ${level} ». Ce que les `
+    + 'autres ont créé reste ici en place ; plus pour cette personne ou ce groupe.',
   set: 'Fixer',
   noEnd: 'sans fin',
   onTheWay: (names) => `Seulement en chemin vers quelque chose plus bas : ${and(names)}`,
@@ -179,6 +188,8 @@ export const FR_ACCESS = {
     + 'chemin ».',
   lineChanged: (place) => `Quelqu’un a changé ${place} entre-temps : sa ligne reste.`,
   lineStays: (place) => `La ligne à ${place} reste.`,
+  notAdded: (place) => `Quelqu’un a modifié ${place} entre-temps : rien n’y a été changé.`,
+  notAddedAt: (place) => `Rien n’a été changé dans ${place}.`,
   takenBack: 'Ce qui avait été envoyé d’abord a été retiré.',
   replaces: 'Elle prend la place de cette liste. Vous voyez ce qui change avant qu’elle soit '
     + 'envoyée.',
@@ -214,12 +225,14 @@ export const FR_OUTCOME = {
   loses: (from, to, kind, removals) => `${named(from, kind)} maintenant, puis ${
     withRemovals(to, kind, removals)}`,
   losesAll: (from, kind) => `plus aucun accès (${named(from, kind)} maintenant)`,
+  losesByList: (from, kind) => `plus aucun accès par cette liste (${named(from, kind)} maintenant)`,
   keeps: withRemovals,
   keepsRemoving: (removals) => `possible : ${and(removing(removals))}`,
   keepsMore: (places) =>
     `quelque chose à ${count(places, 'autre endroit', 'autres endroits')}`,
   changesMore: (places) => (places === 1 ? '1 autre endroit plus bas change'
     : `${number(places)} autres endroits plus bas changent`),
+  showAll: 'Tout montrer',
   nobody: 'Personne ne gagne ni ne perd rien',
   nobodyNow: 'par cela pour le moment.',
   nobodyLoses: 'Personne ne perd',
@@ -250,6 +263,12 @@ export const FR_OUTCOME = {
     + 'plus bas n’en a plus besoin.',
   takePassingPerhaps: (name, places) => `Retirer aussi le passage par ${and(places)} pour `
     + `${name}. On ne sait pas si quelque chose plus bas en a besoin.`,
+  letRemoveAt: (names, places, isFolder) => `Laisser aussi ${and(names)} enlever ${
+    isFolder ? 'les dossiers que' : 'ce que'} les autres ont créé dans ${
+    and(places)}, où tout reste en place. Sinon, ce n’est pas possible.`,
+  removesNotAt: (names, places, isFolder) => `${capital(and(names))} : ${
+    isFolder ? 'les dossiers que' : 'ce que'} les autres ont créé dans ${
+    and(places)} ne peut pas y être enlevé. Qui gère cet endroit peut changer cela.`,
   moves: 'Quiconque peut supprimer quelque chose peut aussi le déplacer dans son propre dossier et '
     + 'l’y ouvrir, même sans pouvoir l’ouvrir ici. Ce qui est réglé sur « Seulement ces '
     + 'personnes » reste fermé.',

@@ -26,7 +26,8 @@ export const FR_EARLIER = {
   putBackOf: (name) => `Remettre ${name}`,
   putBackMissing: 'Remettre ce qui manque',
   headings: ['Nom', 'Type', 'Maintenant', 'Ce qu’on peut faire'],
-  caption: 'Ce qui était dans ce dossier cette nuit-là, et ce qui y est maintenant.',
+  caption: 'Ce qui était dans ce dossier cette nuit-là, et ce qui y est maintenant.'
+    + ' Les touches fléchées vont de ligne en ligne.',
   still: 'toujours là',
   anotherKind: 'autre chose a ce nom',
   goneNow: 'n’est plus là',
@@ -59,25 +60,26 @@ export const FR_EARLIER = {
   },
   question: (name) => `Remettre ${name} ?`,
   asOf: (time) => `État du ${moment(time)} :`,
-  missing: (many) => (many === 1
-    ? '1 objet qui manque revient comme le vôtre, et suit la liste d’accès de son dossier.'
-    : `${objects(many)} qui manquent reviennent comme les vôtres, et suivent la liste d’accès de `
-      + 'leur dossier.'),
+  missing: (many) => (many === 1 ? '1 objet qui manque revient comme le vôtre.'
+    : `${objects(many)} qui manquent reviennent comme les vôtres.`),
+  following: 'Ce qui revient suit la liste d’accès de son dossier.',
   there: (many) => (many === 1
     ? '1 document est toujours là : s’il est remplacé, son contenu actuel est perdu, et son accès '
       + 'reste.'
     : `${count(many, 'document', 'documents')} sont toujours là : s’ils sont remplacés, leur `
       + 'contenu actuel est perdu, et leur accès reste.'),
-  closed: (many) => (many === 1
-    ? '1 objet avait sa propre liste d’accès, qui ne revient pas : tous ceux qui peuvent lire le '
-      + 'dossier le liront.'
-    : `${objects(many)} avaient leurs propres listes d’accès, qui ne reviennent pas : tous ceux `
-      + 'qui peuvent lire le dossier les liront.'),
-  perhapsClosed: (many) => (many === 1
-    ? '1 objet avait peut-être sa propre liste d’accès, que vous ne voyez pas et qui ne revient '
-      + 'pas : tous ceux qui peuvent lire le dossier le liront.'
-    : `${objects(many)} avaient peut-être leurs propres listes d’accès, que vous ne voyez pas et `
-      + 'qui ne reviennent pas : tous ceux qui peuvent lire le dossier les liront.'),
+  // Qui pourrait lire plus que cette nuit-là, s’il revenait comme est son dossier.
+  opens: (names, many) => `Pour ${and(names)}, ${objects(many)} de cela ${many === 1
+    ? 'n’était pas lisible' : 'n’étaient pas lisibles'} cette nuit-là ; comme est le dossier `
+    + 'maintenant, si.',
+  perhapsOpens: (many) => `Vous ne voyez pas qui pouvait lire ${objects(many)} de cela cette `
+    + 'nuit-là : qui peut lire le dossier maintenant le pourra.',
+  whoReads: 'Qui peut lire ce qui revient',
+  alone: 'Moi seulement',
+  peopleThen: (names) => `Les personnes de cette nuit-là : ${and(names)}`,
+  peopleNow: 'Qui peut lire le dossier maintenant',
+  staysShut: (places) => `${and(places)} reste ouvert à vous seulement : sa liste de cette `
+    + 'nuit-là n’a pas pu être mise.',
   onlyMissing: 'Seulement ce qui manque',
   allOfIt: 'Tout, et remplacer ce qui est là',
   replace: 'Remplacer ce qui est là',

@@ -22,6 +22,8 @@ export const FR_FOLDER = {
     a: 'Vous ne pouvez pas créer de dossiers ici.',
   },
   upload: 'Envoyer',
+  add: 'Ajouter',
+  more: 'Plus',
   uploadFolder: 'Envoyer un dossier',
   filesField: 'Documents à envoyer',
   wholeField: 'Dossier à envoyer',
@@ -51,6 +53,7 @@ export const FR_FOLDER = {
   renameOrMove: 'Renommer ou déplacer',
   taken: 'Il y a déjà quelque chose de ce nom. Choisissez-en un autre.',
   amount: amountOf,
+  mayNotRename: (place) => `Vous ne pouvez pas renommer ${place}.`,
   mayNotRemove: (place) =>
     `Vous ne pouvez pas supprimer ${place}, donc rien n’a été supprimé.`,
   removeFolder: 'Supprimer le dossier ?',
@@ -124,6 +127,7 @@ const objectsIn = (names, isFolder) =>
 export const FR_MOVING = {
   into: (place) => ['Dans ', place],
   above: 'Le dossier parent',
+  noFolders: 'Aucun dossier ici.',
   folder: 'Dossier',
   folders: 'Dossiers',
   renameFolder: 'Renommer ou déplacer le dossier',
@@ -203,12 +207,15 @@ export const FR_UPLOAD = {
   noFolder: 'son dossier n’a pas pu être créé',
   left: 'laissé tel quel',
   notSent: 'pas envoyé',
+  tooMuch: 'pas envoyé, car c’était trop à la fois : attendez une minute, puis appuyez sur '
+    + '« Réessayer ce qui a échoué »',
   lost: 'il a été envoyé, mais la salle ne l’a plus',
   interrupted: (many) => 'La salle a été interrompue pendant l’envoi, et '
     + `${documents(many)} qu’elle avait déjà ${many === 1 ? 'a disparu' : 'ont disparu'}. Elle a `
     + 'sans doute été ramenée à un état antérieur : demandez à l’administrateur ce qui a encore '
     + 'disparu, et réessayez ce qui a échoué.',
   done: (whole) => `${count(whole, 'document envoyé', 'documents envoyés')}.`,
+  stopped: (good, whole) => `Arrêté : ${number(good)} sur ${documents(whole)} envoyés.`,
   failed: (bad, whole) => `${number(bad)} sur ${documents(whole)} en échec.`,
   folderIntoDocument: (name) => `Un dossier ne peut pas être mis dans un document, et ${name} en `
     + 'est un. Déposez-le sur un dossier, ou à côté des lignes.',

@@ -4,7 +4,10 @@ import { Refusal, jsonOrNull, namesOf, putOnce, target } from './api.js';
 import { untilAnswered } from './retry.js';
 
 // What the room would be asked for, so that a refusal is told in the same words.
-const WORDS = { below: 'folder', closed: 'folder', find: 'folder', goes: 'folder', zip: 'folder' };
+const WORDS = {
+  below: 'folder', closed: 'folder', find: 'folder', goes: 'folder', latest: 'folder',
+  zip: 'folder',
+};
 
 // The door says that the room is away where nginx would say that there is no answer. A fault says
 // that it is the door's.
@@ -42,10 +45,41 @@ export function differsBelow(path, apart = path) {
     rest.length === 0 ? '' : `?${rest.map(encodeURIComponent).join('/')}`);
 }
 
-// The names in a folder that can't be opened, as a set; an empty one where that isn't known. It is
-// asked once: nothing waits for it.
-export const closedIn = (path) => ask('GET', 'closed', path, 'json')
-  .then(({ told }) => new Set(told.closed), () => new Set());
+// The last second that a date of the browser has.
+const LAST = 8640000000000;
+const isCount = (value, most) => Number.isInteger(value) && value >= 0 && value <= most;
+const FITS = {
+  when: (value) => isCount(value, LAST), before: (value) => isCount(value, LAST),
+  size: (value) => isCount(value, Number.MAX_SAFE_INTEGER),
+  who: (value) => typeof value === 'string' && value !== '',
+};
+
+// What is told of one object beside its name, as far as it is what it should be.
+const knownOf = (told) => Object.fromEntries(
+  Object.entries(FITS).filter(([name, fits]) => fits(told[name])).map(([name]) =>
+    [name, told[name]]));
+const SHOWS = ['when', 'who'];
+const shownIn = (shows) => (SHOWS.includes(shows) ? shows : null);
+
+// What is known of a folder beside the names in it: those that can't be opened, as a set; by name
+// what else is told, {when, before, who, size}; and whether that is told in this room: 'when',
+// 'who', null, or undefined where there is no answer. It is asked once: nothing waits for it.
+export const detailsIn = (path) => ask('GET', 'folder', path, 'json')
+  // A door that keeps nothing of changes tells only what is closed.
+  .catch((fault) => {
+    if (fault.status !== 404) throw fault;
+    return ask('GET', 'closed', path, 'json');
+  })
+  .then(({ told: { closed, rows = [], shows } }) => ({ closed: new Set(closed),
+    known: new Map(rows.map((one) => [one.name, knownOf(one)])), shows: shownIn(shows) }))
+  .catch(() => ({ closed: new Set(), known: new Map(), shows: undefined }));
+
+// The documents below a folder that changed last: {found: [{path, when, who, size}], shows}.
+export async function newestBelow(path) {
+  const { found, shows } = await read('latest', path);
+  return { shows: shownIn(shows),
+    found: found.map((one) => ({ path: String(one.path), ...knownOf(one) })) };
+}
 
 // The names below a folder that contain a text: {all, found: [{path, kind}], unlisted: [path]}.
 export const findBelow = (path, text) => read('find', path, `?${encodeURIComponent(text)}`);

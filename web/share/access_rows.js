@@ -6,13 +6,13 @@ import { today } from '../net/clock.js';
 import { offered, select } from './add_person.js';
 import { button, element, icon, nameText } from '../ui/dom.js';
 import { confirm, deliver } from './confirm.js';
-import { RANKS, keyOf, withLevel } from '../acl/levels.js';
+import { RANKS, keyOf, letRemove, withLevel } from '../acl/levels.js';
 import { linkTo } from '../ui/links.js';
 import { endWords } from '../acl/end_dates.js';
 import { isInherited } from '../acl/entries.js';
 import { tell, tellFault } from '../ui/messages.js';
 import { levelWords, placeName } from './access_words.js';
-import { below, mark, shortened, whoName } from '../ui/names.js';
+import { below, mark, shortened, spokenName, whoName } from '../ui/names.js';
 import { isolated, rightsIn } from '../text/words.js';
 
 const rank = (level) => RANKS.indexOf(level);
@@ -59,7 +59,7 @@ async function change(state, row, value, again, back) {
     return;
   }
   const subject = { who: row.who, isGroup: row.isGroup, name, isLeaving: isGone, level: value };
-  const line = `[aria-label="${CSS.escape(labelOf(row))}"]`;
+  const line = `[aria-label="${CSS.escape(labelOf(state, row))}"]`;
   const done = await confirm(state, () => next, isGone
     ? { title: texts.access.removeAccessTo(placeName(path)), words: texts.access.removeAccess,
       allTheSame: texts.access.removeAllTheSame, subject,
@@ -77,17 +77,23 @@ function goneControl(state, row, again) {
   if (!state.edits || row.inherited || row.level === 'custom' || hasBoth) return null;
   const gone = () => change(state, row, 'gone', again, () => {}).catch(tellFault);
   const label = (row.isGroup ? texts.access.removeAccessOfGroup : texts.access.removeAccessOf)(
-    row.who);
+    spokenName(state.known, row));
   return button(icon('cross'), gone, { class: 'small plain gone', 'aria-label': label,
     title: texts.access.removeAccess });
 }
 
-const labelOf = ({ isGroup, who }) =>
-  (isGroup ? texts.access.whatGroupCan : texts.access.whatCan)(who);
+const labelOf = ({ known }, row) =>
+  (row.isGroup ? texts.access.whatGroupCan : texts.access.whatCan)(spokenName(known, row));
+
+// By d in a line that is passed on to documents these can be removed all the same.
+const barredWords = ({ entries }) => (entries.some(({ flags, mask }) => flags.includes('f')
+  && mask.includes('d')) ? texts.access.removesNoFolders : texts.access.removesNothing);
 
 function levelControl(state, row, again) {
   const { kind, edits, model } = state;
-  const plain = element('span', { class: 'level' }, levelWords(row.level, kind));
+  const words = levelWords(row.level, kind);
+  const plain = element('span', { class: 'level' },
+    row.barred ? barredWords(row)(words) : words);
   if (!edits || row.inherited || row.level === 'custom') return plain;
   const hasBoth = model.rows.some((one) => one.inherited && one.key === row.key);
   // What was carried here from above is changed there.
@@ -96,7 +102,7 @@ function levelControl(state, row, again) {
   const options = levels.sort((one, other) => rank(one) - rank(other))
     .map((one) => [one, levelWords(one, kind)]);
   const all = hasBoth ? options : [...options, ['gone', texts.access.removeAccess]];
-  return select(labelOf(row), all, row.level, (value, made) => {
+  return select(labelOf(state, row), all, row.level, (value, made) => {
     const back = () => { made.value = row.level; };
     change(state, row, value, again, back).catch((fault) => {
       tellFault(fault);
@@ -131,7 +137,7 @@ async function setEnd(state, row, input, again) {
     tell('bad', input.validity.badInput ? texts.access.partOfDate : texts.access.noDate);
     input.focus();
   } else if (await deliver(state, next, { ways: () => [], left: () => [] }) === 'sent') {
-    await again(`[aria-label="${CSS.escape(labelOf(row))}"]`);
+    await again(`[aria-label="${CSS.escape(labelOf(state, row))}"]`);
     const name = nameIn(state, row);
     tell('good', day === '' ? texts.access.hasNoEnd(name)
       : texts.access.ends(name, endWords(day)));
@@ -144,7 +150,8 @@ function endControl(state, row, again) {
   const isFixed = !edits || row.inherited || row.who.endsWith('@')
     || ['pass', 'clear', 'custom'].includes(row.level);
   if (isFixed) return row.until && element('p', { class: 'hint' }, untilWords(row));
-  const name = (row.isGroup ? texts.access.lastDayOfGroup : texts.access.lastDay)(row.who);
+  const name = (row.isGroup ? texts.access.lastDayOfGroup : texts.access.lastDay)(
+    spokenName(state.known, row));
   const open = () => {
     const input = element('input', { type: 'date', value: row.until ?? '', 'aria-label': name });
     const set = (event) => {
@@ -157,7 +164,7 @@ function endControl(state, row, again) {
   };
   const now = row.until ? untilWords(row) : texts.access.noEnd;
   const shown = element('div', {}, button(now, open,
-    { class: 'small plain', 'aria-label': `${name}: ${now}` }));
+    { class: 'small plain ends', 'aria-label': `${name}: ${now}` }));
   return shown;
 }
 
@@ -167,9 +174,24 @@ function line(state, row, again) {
     mark(known, row.who, row.isGroup),
     element('div', { class: 'name-of' }, nameText(whoName(known, row.who, row.isGroup)),
       below(known, row, me, sourceWords(state, row)),
-      endControl(state, row, again),
+      endControl(state, row, again), barredControl(state, row, again),
       row.level === 'custom' ? element('p', { class: 'hint' }, customWords(row, kind)) : null),
     levelControl(state, row, again), goneControl(state, row, again));
+}
+
+// Whoever removes by the folder above, and not here, where a line keeps things in place.
+function barredControl(state, row, again) {
+  if (!state.edits || !row.barred || !row.inherited) return null;
+  const name = nameIn(state, row);
+  const level = levelWords(row.level, state.kind);
+  const does = () => confirm(state, () => letRemove(state.list, [row]), {
+    title: texts.access.letRemoveTitle, words: texts.access.letThem,
+    allTheSame: texts.access.letAllTheSame,
+    subject: { who: row.who, isGroup: row.isGroup, name, level: row.level },
+    sentence: () => texts.access.letRemoveSays(name, level) })
+    .then((done) => (done ? again() : null)).catch(tellFault);
+  return button(texts.access.letRemoveHere, does, { class: 'small',
+    'aria-label': texts.access.letRemoveHereFor(spokenName(state.known, row)) });
 }
 
 const isOwnRow = ({ inherited }) => !inherited;

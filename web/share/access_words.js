@@ -30,13 +30,17 @@ function sameLevelWords({ from, more, gained, lost, isRemoval }) {
   return texts.outcome.removals(gained, lost, from === 'none');
 }
 
-function changeWords(change, kind) {
+// Of a person whose groups aren't known, no more can be said than what this list gives.
+const isAllKnown = ({ user }, known) => user === null || known?.members === true;
+
+function changeWords(change, kind, known) {
   const { from, to, more } = change;
   if (from === to) return sameLevelWords(change);
   const removals = beyondLevel(change);
   if (more) return texts.outcome.gains(to, kind, removals);
-  return to === 'none' ? texts.outcome.losesAll(from, kind)
-    : texts.outcome.loses(from, to, kind, removals);
+  if (to !== 'none') return texts.outcome.loses(from, to, kind, removals);
+  const say = isAllKnown(change, known) ? texts.outcome.losesAll : texts.outcome.losesByList;
+  return say(from, kind);
 }
 
 export const shownName = (known) => ({ user, name }) =>
@@ -64,7 +68,7 @@ function headOf({ more, owns }) {
 
 // The path is null for the object itself.
 const changeLines = (changes, kind, known, path = null) => joinedLines(changes.map((caller) => {
-  const words = changeWords(caller, kind);
+  const words = changeWords(caller, kind, known);
   return { look: caller.more ? 'gain' : 'loss', head: headOf(caller), caller,
     words: path === null ? words : texts.outcome.at(words, isolated(path)) };
 }), known);
@@ -80,7 +84,8 @@ function keptLines({ path, kind, kept }, known) {
     words: texts.outcome.keepsAt(may(caller), isolated(path)) })), known);
 }
 
-const plain = (look, head, words) => ({ look, head, words, names: [] });
+// 'rest' are further lines, which are shown if somebody asks for them.
+const plain = (look, head, words, rest = []) => ({ look, head, words, names: [], rest });
 
 // Who gains and who loses: [{look, head, words, names}].
 export function saidLines({ known, kind }, outcome, subject) {
@@ -90,19 +95,20 @@ export function saidLines({ known, kind }, outcome, subject) {
     .some((one) => !one.isGroup && one.who === user);
   const isSaid = gains.every((one) => isNamed(one) && one.to === subject.level
     && beyondLevel(one).length === 0);
-  const deeper = below.slice(0, MOST_PLACES).flatMap((one) =>
+  const deeper = (those) => those.flatMap((one) =>
     changeLines(one.changes, one.kind, known, one.path));
+  const stays = (those) => those.flatMap((one) => keptLines(one, known));
   const [more, moreKept] = [below, kept].map((those) => those.length - MOST_PLACES);
   const isNone = changes.length === 0 && below.length === 0;
   const isHarmless = losses.length === 0
     && below.every((one) => one.changes.every((each) => each.more));
   return [
     ...isSaid ? [] : changeLines(gains, kind, known), ...changeLines(losses, kind, known),
-    ...deeper,
-    ...kept.slice(0, MOST_PLACES).flatMap((one) => keptLines(one, known)),
+    ...deeper(below.slice(0, MOST_PLACES)), ...stays(kept.slice(0, MOST_PLACES)),
     moreKept > 0 && plain('loss', texts.outcome.heads.keeps,
-      texts.outcome.keepsMore(moreKept)),
-    more > 0 && plain('loss', texts.outcome.heads.also, texts.outcome.changesMore(more)),
+      texts.outcome.keepsMore(moreKept), stays(kept.slice(MOST_PLACES))),
+    more > 0 && plain('loss', texts.outcome.heads.also, texts.outcome.changesMore(more),
+      deeper(below.slice(MOST_PLACES))),
     // Of what wasn't looked at nothing is said.
     isAll && isNone && plain('same', texts.outcome.nobody, texts.outcome.nobodyNow),
     isAll && !isNone && isHarmless && plain('same', texts.outcome.nobodyLoses,
@@ -130,9 +136,11 @@ export function hintsOf({ known }, outcome) {
   ].filter(Boolean);
 }
 
+const namesIn = (subject) => shortened(subjectsOf(subject).map(({ name }) => name), FEW);
+
 // What is offered beside the list: [{key, words, isOn, steps, isFirst}]. 'isFirst' says that the
 // steps come before the list, and 'isOn' that they are taken unless somebody says otherwise.
-export function offersOf({ known }, { opening, left, below, back }, subject) {
+export function offersOf({ known }, { opening, left, below, back, keptFrom }, subject) {
   const open = opening.filter(({ next }) => next !== null);
   const passing = [...new Set(open.flatMap((way) => way.callers.map(shownName(known))))];
   const isShown = below.length > 0;
@@ -155,6 +163,9 @@ export function offersOf({ known }, { opening, left, below, back }, subject) {
     ofBack(true, (steps) => texts.outcome.takeKept(pathsOf(steps))),
     ofBack(false, (steps) => texts.outcome.takeGiven(subject?.name, pathsOf(steps))),
     ofLeft(true, texts.outcome.takePassing), ofLeft(false, texts.outcome.takePassingPerhaps),
+    { key: 'kept', isOn: false, isFirst: false, steps: keptFrom.steps,
+      words: texts.outcome.letRemoveAt(namesIn(subject), pathsOf(keptFrom.steps),
+        subject?.level === 'manage') },
   ];
   return offers.filter(({ steps }) => steps.length > 0);
 }
@@ -163,7 +174,7 @@ export function offersOf({ known }, { opening, left, below, back }, subject) {
 const SET_APART = [texts.warnings.includesApart, texts.warnings.includesSeveralApart];
 
 // What one has to mind: [{kind, text}].
-export function warningsOf({ known }, { opening, removal }) {
+export function warningsOf({ known }, { opening, removal, keptFrom }, subject) {
   const barred = opening.filter(({ next }) => next === null).map(({ path, callers }) => ({
     kind: 'bad',
     text: texts.outcome.cantGet(shortened(callers.map(shownName(known)), FEW), placeName(path)),
@@ -172,6 +183,9 @@ export function warningsOf({ known }, { opening, removal }) {
   return [...barred,
     ...inside !== null && inside.shut.length > 0
       ? [{ kind: 'bad', text: insideWords(inside, SET_APART, known) }] : [],
+    ...keptFrom.others.length > 0 ? [{ kind: 'unsure', text: texts.outcome.removesNotAt(
+      namesIn(subject), shortened(keptFrom.others.map((path) =>
+        texts.places.quoted(isolated(path)))), subject?.level === 'manage') }] : [],
     ...opens ? [{ kind: 'unsure', text: texts.outcome.moves }] : []];
 }
 

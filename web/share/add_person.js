@@ -48,8 +48,8 @@ function addedWords({ known, kind, path }, subjects, level, say, day) {
 }
 
 // Where nobody may remove what they added, nobody is told so.
-const levelHint = (kind, level, next) => (readLevels(next, kind).own ? texts.access.hint
-  : texts.access.hintWithoutOwn)(level, kind);
+const levelHint = (kind, level, next) => (kind === 'document' || readLevels(next, kind).own
+  ? texts.access.hint : texts.access.hintWithoutOwn)(level, kind);
 
 const unsureWords = ({ known }, { who, sure }) => (sure || known === null ? null
   : element('p', { class: 'fault' },
@@ -70,8 +70,10 @@ function tellShared(words, path, choices) {
     mailLink(path, choices));
 }
 
-const subjectOf = (choice) => ({ ...choice,
-  name: choice.isGroup ? texts.access.theGroup(isolated(choice.who)) : isolated(choice.who) });
+function subjectOf(choice, known) {
+  const name = isolated(whoName(known, choice.who, choice.isGroup));
+  return { ...choice, name: choice.isGroup ? texts.access.theGroup(name) : name };
+}
 
 // Those who were picked, the level that they get, and what comes of it. Each drawing has a number,
 // so that a slow one isn't shown for a later level.
@@ -134,7 +136,8 @@ class Picked {
 
   // Whom it is about, as those say it who look at what comes of it.
   get subject() {
-    const all = this.choices.map((choice) => ({ ...subjectOf(choice), level: this.level }));
+    const { known } = this.state;
+    const all = this.choices.map((choice) => ({ ...subjectOf(choice, known), level: this.level }));
     return all.length === 1 ? all[0] : { all, level: this.level };
   }
 

@@ -7,6 +7,7 @@ import { followOutcome } from './consequences.js';
 import { changersOf } from '../net/door.js';
 import { whoCould } from '../ui/who_changed.js';
 import { lookingLine } from '../ui/progress.js';
+import { asWork } from '../ui/working.js';
 import { placeName } from './access_words.js';
 import { tellOutcome } from './outcome_view.js';
 import { sendAll } from './passage.js';
@@ -14,15 +15,21 @@ import { sentenceOf } from '../text/words.js';
 
 const stays = (paths) => texts.access.wayStays(paths.map(placeName));
 
-// Lines that only let somebody pass are taken away after the list was sent, each by itself.
+// What is said where it wasn't done: of a line that was to be added, or that was to go.
+const wordsFor = ({ isAdded = false }) => (isAdded
+  ? { changed: texts.access.notAdded, failed: texts.access.notAddedAt }
+  : { changed: texts.access.lineChanged, failed: texts.access.lineStays });
+
+// What is offered further down, and lines that only let somebody pass, are changed after the list
+// was sent, each by itself.
 async function dropAll(leftovers, looking) {
   for (const step of leftovers) {
     try {
       const { done } = await sendAll([step]);
       if (done) looking.changed(step.path, step.next);
-      else tell('bad', texts.access.lineChanged(placeName(step.path)));
+      else tell('bad', wordsFor(step).changed(placeName(step.path)));
     } catch (fault) {
-      tell('bad', `${texts.access.lineStays(placeName(step.path))} ${sentenceOf(fault)}`);
+      tell('bad', `${wordsFor(step).failed(placeName(step.path))} ${sentenceOf(fault)}`);
     }
   }
 }
@@ -37,8 +44,8 @@ function tellDanger(send, { words, allTheSame }, { lock }) {
 export async function deliver(state, next, told) {
   const main = { path: state.path, before: state.text, next };
   try {
-    const { done, left, changed } = await waitFor(sendAll([...told.ways(), main]));
-    if (done) await waitFor(dropAll(told.left(), state.looking));
+    const { done, left, changed } = await waitFor(asWork(sendAll([...told.ways(), main])));
+    if (done) await waitFor(asWork(dropAll(told.left(), state.looking)));
     else {
       const who = await whoCould(await waitFor(changersOf('dacl', changed)));
       tell('bad', `${texts.access.changedMeanwhile} ${who}`);

@@ -3,15 +3,16 @@
 
 import { grantsNobody, isGranted } from '../acl/decide.js';
 import { isGroup } from '../acl/entries.js';
-import { afterSending } from '../acl/inherit.js';
+import { afterSending, isException } from '../acl/inherit.js';
 import { isOwn } from '../acl/levels.js';
 import { together } from '../net/crawl.js';
+import { keptFrom } from './kept_below.js';
 import { removalOf } from '../text/removers.js';
 import { lossOf } from '../text/warnings.js';
 import { furtherLines, leftovers, openings, waysAfter } from './passage.js';
 import { isMeant } from './subjects.js';
 import {
-  callersFor, changesBelow, changesOf, extentOf, isException, keptBelow, meantIn, removingOwn,
+  callersFor, changesBelow, changesOf, extentOf, keptBelow, meantIn, removingOwn,
   statesBelow,
 } from './who_can.js';
 
@@ -137,6 +138,7 @@ export async function outcomeOf(state, next, subject = null) {
     owners: [...inside.owners, ...beside.owners],
     gains: changes.filter(({ more }) => more), losses: changes.filter(({ more }) => !more),
     below: [...inside.below, ...beside.changes], isKnown: after.known,
+    keptFrom: await keptFrom(state, inside.states, subject),
     left: isLeaving ? await leftovers(state, next, subject) : [],
     back: isLeaving ? await furtherLines(state, next, keptBy(inside, subject), subject) : [],
     removal: await removalOf(kind, { path, entries: list.entries, object },

@@ -11,9 +11,14 @@ const allOf = (names) => (names.length <= MOST_NAMED + 1 ? null : element('detai
   element('summary', {}, texts.outcome.all(names.length)),
   element('p', { class: 'hint' }, texts.lists.and(names))));
 
-const lineShown = ({ look, head, words, names }) => element('li', { class: look },
+// The places that the line only counts.
+const restOf = (rest) => (rest.length === 0 ? null : element('details', {},
+  element('summary', {}, texts.outcome.showAll),
+  element('ul', { class: 'changes' }, rest.map(lineShown))));
+
+const lineShown = ({ look, head, words, names, rest = [] }) => element('li', { class: look },
   icon(MARKS[look]), element('div', {},
-    element('p', {}, element('b', {}, head), ` ${words}`), allOf(names)));
+    element('p', {}, element('b', {}, head), ` ${words}`), allOf(names), restOf(rest)));
 
 // What somebody ticked or not is kept in 'ticks', since it may be drawn anew.
 function tick({ words, isOn, key }, ticks) {
@@ -22,8 +27,8 @@ function tick({ words, isOn, key }, ticks) {
   return element('label', { class: 'tick way' }, box, element('span', {}, words));
 }
 
-function warnings(state, outcome) {
-  const all = warningsOf(state, outcome)
+function warnings(state, outcome, subject) {
+  const all = warningsOf(state, outcome, subject)
     .map(({ kind, text }) => element('li', { class: kind }, text));
   if (outcome.lock) {
     const { title, text } = lockWords(state, outcome.lock);
@@ -43,7 +48,7 @@ export function tellOutcome(state, outcome, subject = null, ticks = new Map()) {
     element('ul', { class: 'changes', 'aria-label': texts.outcome.changes },
       saidLines(state, outcome, subject).map(lineShown)),
     hintsOf(state, outcome).map((words) => element('p', { class: 'hint' }, words)),
-    offers.map((one) => tick(one, ticks)), warnings(state, outcome));
+    offers.map((one) => tick(one, ticks)), warnings(state, outcome, subject));
   // What lies in another one goes first, so that the other one is still as it was seen.
   const fromBelow = (one, other) => other.path.length - one.path.length;
   return { shown, ways: () => taken(true), left: () => taken(false).sort(fromBelow) };

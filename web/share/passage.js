@@ -12,7 +12,7 @@ import { ownText, seeList, setIfSame } from '../net/matched_list.js';
 import { isUnanswered } from '../net/retry.js';
 
 // Asked once for each panel, which may be drawn several times.
-function mayChange({ changeable }, path) {
+export function mayChange({ changeable }, path) {
   if (!changeable.has(path)) {
     changeable.set(path, api.can(path, 'C').then((may) => may.C.ruling === 'allowed', () => false));
   }

@@ -1,6 +1,8 @@
 // Asks which of the ready-made lists it shall be, and for the names of its groups or its user.
 
-import { button, element, field } from '../ui/dom.js';
+import { button, element, field, freshId } from '../ui/dom.js';
+import { fullName, people } from '../net/directory.js';
+import { isolated } from '../text/words.js';
 import { isName } from '../acl/entries.js';
 import { texts } from '../language/language.js';
 import { showDialog } from '../ui/messages.js';
@@ -28,18 +30,28 @@ function choices(onPick) {
     made.map(({ shown }) => shown)) };
 }
 
+// The names that a field offers, as far as they are known.
+function offered(known, isUser) {
+  const names = isUser ? known?.users ?? [] : Object.keys(known?.groups ?? {});
+  return element('datalist', { id: freshId('names') }, names.map((name) => element('option',
+    { value: name, label: isUser ? fullName(known, name) : null })));
+}
+
 // The fields for the names of a list. 'typed' has what was typed for each example.
-function nameFields(ready, typed, onInput) {
-  const made = ready.asks.map(({ label, example }) => {
+function nameFields(ready, typed, known, onInput) {
+  const made = ready.asks.map(({ label, example, isUser = false }) => {
+    const names = offered(known, isUser);
     const input = element('input', {
       type: 'text', autocomplete: 'off', autocapitalize: 'none', spellcheck: 'false',
-      value: typed.get(example) ?? '',
+      value: typed.get(example) ?? '', list: names.id,
     });
     input.addEventListener('input', () => {
       typed.set(example, input.value);
       onInput();
     });
-    return { input, box: field(label, input) };
+    const box = field(label, input);
+    box.append(names);
+    return { input, box };
   });
   // The names, or null where one is none, which is told then.
   const take = () => {
@@ -56,21 +68,23 @@ function nameFields(ready, typed, onInput) {
 }
 
 // Returns the text of a list, or null.
-export function pickReady(me) {
+export async function pickReady(me) {
+  const known = await people();
+  const shown = isolated(fullName(known, me));
   return showDialog(texts.advanced.ready, (finish) => {
     const typed = new Map();
     const namesOf = ({ asks }) => asks.map(({ example }) =>
       (isName(typed.get(example) ?? '') ? typed.get(example) : example));
     const place = element('div', { class: 'names' });
     let [ready, fields] = [null, null];
-    const { tell, shown } = choices((picked) => pick(picked));
+    const { tell, shown: lists } = choices((picked) => pick(picked));
     const pick = (picked) => {
       ready = picked;
-      fields = nameFields(ready, typed, () => tell(me, namesOf));
+      fields = nameFields(ready, typed, known, () => tell(shown, namesOf));
       place.replaceChildren(...fields.boxes);
     };
     pick(READY[0]);
-    tell(me, namesOf);
+    tell(shown, namesOf);
     const take = (event) => {
       event.preventDefault();
       const names = fields.take();
@@ -78,7 +92,7 @@ export function pickReady(me) {
     };
     return [element('form', { onsubmit: take },
       element('p', {}, texts.access.replaces),
-      shown, place, element('div', { class: 'actions' },
+      lists, place, element('div', { class: 'actions' },
         button(texts.acts.cancel, () => finish(null)),
         element('button', { type: 'submit', class: 'primary' }, texts.access.takeList)))];
   }, 'ready');

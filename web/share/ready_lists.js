@@ -22,7 +22,7 @@ export const READY = [
     entries: (who) => [KEEPS, `A:fdg:${who}:rwaxtc`, 'A:fi:OWNER@:d'],
   },
   {
-    asks: [{ label: texts.ready.userName, example: 'bob' }],
+    asks: [{ label: texts.ready.userName, example: 'bob', isUser: true }],
     title: () => texts.ready.oneUserTitle, sentence: texts.ready.oneUser,
     entries: (who) => [`A:fd:${who}:rwaxDtc`, KEEPS],
   },

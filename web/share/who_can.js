@@ -4,7 +4,7 @@
 import { texts } from '../language/language.js';
 import { parentOf } from '../net/api.js';
 import { bit, decide, isDeletable, mayPass, surely } from '../acl/decide.js';
-import { afterMoving, ofOthers, passedDown } from '../acl/inherit.js';
+import { afterMoving, isException, ofOthers, passedDown } from '../acl/inherit.js';
 import { RANKS } from '../acl/levels.js';
 import { isGroup, isInherited } from '../acl/entries.js';
 
@@ -162,10 +162,6 @@ export const changesOf = (before, after, callers, ways = [[], []]) => callers.fl
     (mayPass(ways[index], caller) ? side : null)), caller);
   return difference === null ? [] : [{ ...caller, ...difference }];
 });
-
-// Whether an object has something in its list that doesn't come from the folder above.
-export const isException = ({ list, kind }) => list !== null && (list.protect
-  || (kind === 'folder' && !list.auto) || list.entries.some((entry) => !isInherited(entry)));
 
 // Those of the callers whom lines of their own further down may mean.
 export function meantIn(nodes, callers) {

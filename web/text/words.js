@@ -104,6 +104,9 @@ function kindAt(denial, asked) {
 
 function mayNotWords(denial, asked) {
   const place = placeWords(denial.at);
+  if (asked?.isRename && /[dD]/.test(denial.bits)) {
+    return texts.folder.mayNotRename(placeWords(asked.path));
+  }
   // Where no entry says who may remove something, the right to put documents beside it decides.
   if (asked?.word === 'object' && denial.bits === 'w') return texts.faults.deniedRemoval(place);
   const kind = kindAt(denial, asked);

@@ -3,11 +3,17 @@
 const controlsOf = (row) =>
   [...row.querySelectorAll('[data-act]')].filter((one) => one.checkVisibility());
 
-// The control for the same action in another row, or that row's name.
+// The control for the same action in another row, or that row's name, or its first one.
 function sameIn(row, act) {
   const controls = controlsOf(row);
   return controls.find((one) => one.dataset.act === act)
-    ?? controls.find((one) => one.dataset.act === 'open');
+    ?? controls.find((one) => one.dataset.act === 'open') ?? controls[0];
+}
+
+// The next row in this direction in which anything can be done.
+function rowBeside(row, step) {
+  const next = row[step];
+  return next === null || controlsOf(next).length > 0 ? next : rowBeside(next, step);
 }
 
 function beside(control, step) {
@@ -18,9 +24,11 @@ function beside(control, step) {
 function target(control, key, rows) {
   const row = control.closest('tr');
   const other = {
-    ArrowDown: row.nextElementSibling, ArrowUp: row.previousElementSibling,
-    Home: rows[0], End: rows[rows.length - 1],
-  }[key];
+    ArrowDown: () => rowBeside(row, 'nextElementSibling'),
+    ArrowUp: () => rowBeside(row, 'previousElementSibling'),
+    Home: () => rows.find((one) => controlsOf(one).length > 0),
+    End: () => rows.findLast((one) => controlsOf(one).length > 0),
+  }[key]?.();
   if (other) return sameIn(other, control.dataset.act);
   if (key === 'ArrowRight') return beside(control, 1);
   if (key === 'ArrowLeft') return beside(control, -1);
@@ -29,11 +37,11 @@ function target(control, key, rows) {
 
 // Up and down keep the column, left and right go through a row. 'shortcuts' are other keys, and
 // what each does with a row.
-export function rove(body, shortcuts) {
+export function rove(body, shortcuts = {}) {
   const stop = (control) => {
     for (const one of body.querySelectorAll('[data-act]')) one.tabIndex = one === control ? 0 : -1;
   };
-  stop(body.querySelector('[data-act="open"]'));
+  stop(body.querySelector('[data-act="open"]') ?? body.querySelector('[data-act]'));
   body.addEventListener('focusin', (event) => {
     if (event.target.dataset.act) stop(event.target);
   });
@@ -41,8 +49,10 @@ export function rove(body, shortcuts) {
     if (event.altKey || event.ctrlKey || event.metaKey || !event.target.dataset.act) return;
     const shortcut = shortcuts[event.key];
     shortcut?.(event.target.closest('tr'));
-    const next = target(event.target, event.key, body.rows);
+    const next = target(event.target, event.key, [...body.rows]);
     next?.focus();
+    // What stays at an edge of the window may be over it.
+    next?.scrollIntoView({ block: 'nearest' });
     if (shortcut || next) event.preventDefault();
   });
 }

@@ -4,7 +4,7 @@ import { texts } from '../language/language.js';
 import { join, namesOf } from '../net/api.js';
 import { element, nameText } from './dom.js';
 
-const VIEWS = ['show', 'access', 'rights', 'dacl', 'sacl', 'earlier'];
+const VIEWS = ['show', 'access', 'rights', 'dacl', 'sacl', 'earlier', 'new'];
 
 export function linkTo(path, view = null) {
   const names = namesOf(path).map(encodeURIComponent).join('/');

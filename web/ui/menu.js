@@ -21,12 +21,14 @@ function itemFor(key, items, now) {
   return index === undefined ? null : items[index];
 }
 
-// 'isChosen' says which one of several holds now.
-function itemOf({ words, does, href, look = null, lang = null, isChosen = null }, close) {
+// 'isChosen' says which one of several holds now, 'isBarred' that it can only say why it can't.
+function itemOf({ words, does, href, look = null, lang = null, isChosen = null, isBarred = false },
+  close) {
   const role = isChosen === null ? 'menuitem' : 'menuitemradio';
   return element(href ? 'a' : 'button', {
     role, tabindex: '-1', class: look, lang, href: href ?? null, type: href ? null : 'button',
     'aria-checked': isChosen === null ? null : String(isChosen),
+    'aria-disabled': isBarred ? 'true' : null,
     onclick: () => {
       close();
       does?.();
@@ -65,11 +67,12 @@ function open(opener, label, entries) {
   return close;
 }
 
-// A button that opens a menu of entries {words, does or href, look, lang, isChosen}. A function
-// makes them when it is pressed.
-export function menuButton(label, entries, properties = {}) {
+// A button that opens a menu of entries {words, does or href, look, lang, isChosen, isBarred}. A
+// function makes them when it is pressed. 'mark' is the button's picture.
+export function menuButton(label, entries,
+  { mark = 'more', ...properties } = /** @type {Record<string, any>} */ ({})) {
   let close = null;
-  const opener = button(icon('more'), () => {
+  const opener = button(icon(mark), () => {
     if (opener.getAttribute('aria-expanded') === 'true') close();
     else close = open(opener, label, typeof entries === 'function' ? entries() : entries);
   }, { 'aria-label': label, 'aria-haspopup': 'menu', 'aria-expanded': 'false', ...properties });

@@ -1,6 +1,7 @@
 // Messages at a fixed place, and questions in a dialog.
 
 import { texts } from '../language/language.js';
+import { announce, regions } from './announce.js';
 import { button, element, field, icon } from './dom.js';
 import { askedFor } from './ask_whom.js';
 import { denialWords, sentenceOf } from '../text/words.js';
@@ -16,9 +17,10 @@ export function tell(kind, text, ...actions) {
   const stays = kind === 'good' && actions.length > 0 ? ' stays' : '';
   if (stays) for (const old of place().querySelectorAll('.stays')) old.remove();
   const notice = element('div', {
-    class: `notice ${kind}${stays}`, role: kind === 'bad' ? 'alert' : 'status', 'data-text': text,
+    class: `notice ${kind}${stays}`, 'data-text': text,
   }, icon(kind === 'bad' ? 'cross' : 'check'), said, actions, close);
   place().append(notice);
+  announce(kind, text);
   if (kind === 'good' && !stays) setTimeout(() => notice.remove(), 6000);
   return said;
 }
@@ -33,7 +35,10 @@ function reasonOf({ status, body, asked }) {
 // Whom to ask is known a little later.
 function nameManagers(said, fault) {
   if (fault.status !== 403 || !fault.body?.at) return;
-  askedFor(fault.body.at).then((ask) => { said.textContent = sentenceOf(fault, ask); }, () => {});
+  askedFor(fault.body.at).then((ask) => {
+    said.textContent = sentenceOf(fault, ask);
+    announce('bad', ask);
+  }, () => {});
 }
 
 // What the door couldn't do is done 'again' by a press.
@@ -74,9 +79,10 @@ let waitingNotice = null;
 export function showWaiting(isWaiting) {
   if (!isWaiting) waitingNotice?.remove();
   else if (!waitingNotice?.isConnected) {
-    waitingNotice = element('div', { class: 'notice waits', role: 'status' }, icon('dash'),
+    waitingNotice = element('div', { class: 'notice waits' }, icon('dash'),
       element('p', {}, texts.messages.waiting));
     place().append(waitingNotice);
+    announce('good', texts.messages.waiting);
   }
 }
 
@@ -97,7 +103,7 @@ function openDialog(title, build, look) {
       answer = value;
       dialog.close();
     };
-    dialog.append(heading, ...build(finish));
+    dialog.append(heading, ...build(finish), ...regions());
     dialog.addEventListener('close', () => {
       dialog.remove();
       resolve(answer);

@@ -3,6 +3,7 @@
 import { texts } from '../language/language.js';
 import { element, icon, nameText } from './dom.js';
 import { fullName } from '../net/directory.js';
+import { marked } from '../text/invisible.js';
 import { isolated } from '../text/words.js';
 
 const isSpecial = (who) => Object.hasOwn(texts.names.special, who);
@@ -12,6 +13,14 @@ const FEW = 3;
 export function whoName(known, who, isGroup) {
   if (isSpecial(who)) return texts.names.special[who];
   return isGroup ? who : fullName(known, who);
+}
+
+// The name by which a control is heard. Of two people with one name the login is said too.
+export function spokenName(known, { who, isGroup }) {
+  const name = whoName(known, who, isGroup);
+  const isShared = !isGroup && known !== null
+    && known.users.filter((user) => fullName(known, user) === name).length > 1;
+  return marked(isShared ? `${name} (${who})` : name);
 }
 
 export function mark(known, who, isGroup) {
