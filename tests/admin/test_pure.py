@@ -237,7 +237,7 @@ class Lists(unittest.TestCase):
                     out.write(text)
                 self.assertEqual((settings.room(place).port, settings.place(place).port),
                                  (port, port))
-                self.assertEqual(settings.gone(text), (text.replace(
+                self.assertEqual(values.gone(text), (text.replace(
                     f"\nDOOR={door}", f"\n# DOOR={door} says nothing any more: each room has its "
                     "door.").replace(f"\nSOCKET={socket}", f"\n# SOCKET={socket} says nothing any "
                                      "more: each room has its socket."), ["DOOR", "SOCKET"]))

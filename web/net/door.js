@@ -65,11 +65,6 @@ const shownIn = (shows) => (SHOWS.includes(shows) ? shows : null);
 // what else is told, {when, before, who, size}; and whether that is told in this room: 'when',
 // 'who', null, or undefined where there is no answer. It is asked once: nothing waits for it.
 export const detailsIn = (path) => ask('GET', 'folder', path, 'json')
-  // A door that keeps nothing of changes tells only what is closed.
-  .catch((fault) => {
-    if (fault.status !== 404) throw fault;
-    return ask('GET', 'closed', path, 'json');
-  })
   .then(({ told: { closed, rows = [], shows } }) => ({ closed: new Set(closed),
     known: new Map(rows.map((one) => [one.name, knownOf(one)])), shows: shownIn(shows) }))
   .catch(() => ({ closed: new Set(), known: new Map(), shows: undefined }));

@@ -242,9 +242,8 @@ class Room(Kept):
 
     @property
     def listens(self) -> str:
-        """The path of its server's socket; nothing where the server of a unit of somebody's own
-        has a port in its place. It is in a folder of the unit's, which is made anew at each start,
-        so none of before is there."""
+        """The path of the socket at which its server is asked; nothing where the server of a unit
+        of somebody's own has a port in its place."""
         instance = self.unit.partition("@")[2] or self.unit
         place = os.path.join(locks.RUN, "rooms", instance, "socket")
         return place if not self.port or os.path.exists(place) else ""
@@ -381,30 +380,6 @@ def value(path: str, name: str) -> str:
         return last((line for _, line in lines(path)), name) or ""
     except Refused:
         return ""
-
-
-def changed(text: str, wanted: dict[str, str]) -> str:
-    """Each value in the place of its last line, or at the end. All other lines stay."""
-    rows = text.split("\n")
-    for name, new in wanted.items():
-        at = [n for n, row in enumerate(rows) if row.startswith(f"{name}=")]
-        if at:
-            rows[at[-1]] = f"{name}={new}"
-        else:
-            rows[-1:] = [f"{name}={new}", ""]
-    return "\n".join(rows)
-
-
-def gone(text: str) -> tuple[str, list[str]]:
-    """The lines that say nothing any more as comments that tell it, and their names."""
-    rows = text.split("\n")
-    found = []
-    for at, row in enumerate(rows):
-        name = row.partition("=")[0]
-        if name in GONE and name != row:
-            rows[at] = f"# {row} says nothing any more: each room has {GONE[name]}."
-            found.append(name)
-    return "\n".join(rows), sorted(set(found))
 
 
 _SAFE = r"(/[-A-Za-z0-9._/+@,=:]+)?"

@@ -7,12 +7,36 @@ from ..room import names, settings
 from . import template
 
 
+def changed(text: str, wanted: dict[str, str]) -> str:
+    """Each value in the place of its last line, or at the end. All other lines stay."""
+    rows = text.split("\n")
+    for name, new in wanted.items():
+        at = [n for n, row in enumerate(rows) if row.startswith(f"{name}=")]
+        if at:
+            rows[at[-1]] = f"{name}={new}"
+        else:
+            rows[-1:] = [f"{name}={new}", ""]
+    return "\n".join(rows)
+
+
+def gone(text: str) -> tuple[str, list[str]]:
+    """The lines that say nothing any more as comments that tell it, and their names."""
+    rows = text.split("\n")
+    found = []
+    for at, row in enumerate(rows):
+        name = row.partition("=")[0]
+        if name in settings.GONE and name != row:
+            rows[at] = f"# {row} says nothing any more: each room has {settings.GONE[name]}."
+            found.append(name)
+    return "\n".join(rows), sorted(set(found))
+
+
 def set_values(made: Changes, path: str, wanted: dict[str, str]) -> None:
     """Settings that differ."""
     wanted = {name: value for name, value in wanted.items()
               if settings.value(made.root + path, name) != value}
     if wanted:
-        text = settings.changed(template.read(made.root + path), wanted)
+        text = changed(template.read(made.root + path), wanted)
         said = ", ".join(f"{name}={value}" for name, value in wanted.items())
         place = made.root + path
         mode = stat.S_IMODE(os.stat(place).st_mode) if os.path.exists(place) else 0o644
@@ -27,9 +51,9 @@ def tell_gone(made: Changes) -> None:
         path = f"{folder}/{file}"
         if not (file.endswith(".conf") and names.is_room(settings.name_of(file))):
             continue
-        text, found = settings.gone(template.read(path))
+        text, found = gone(template.read(path))
         if found:
-            text = settings.changed(text, {"PORT": settings.port(path)})
+            text = changed(text, {"PORT": settings.port(path)})
             made.file(f"/etc/rooms/{file}", text.encode(errors="surrogateescape"),
                       stat.S_IMODE(os.stat(path).st_mode),
                       what=f", where {' and '.join(found)} said what each room has now")

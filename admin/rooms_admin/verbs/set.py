@@ -73,7 +73,7 @@ def run(given: argparse.Namespace) -> int:
             raise Refused(f"no settings: {path} isn't there")
         wanted = _wanted(given.values, path, settings.known(kind))
         text = template.read(made.root + path)
-        settings.look_at(path, settings.changed(text, wanted))
+        settings.look_at(path, values.changed(text, wanted))
         changed = {name for name, value in wanted.items()
                    if settings.value(made.root + path, name) != value}
         values.set_values(made, path, wanted)
