@@ -7,9 +7,10 @@ closed=$(printf '%s\n' list:p "A::alice:$ALL")
 members=$'\n'$(<groups.csv)$'\n'
 in_group() { [[ $members = *$'\n'"$1,$2"$'\n'* ]]; } # GROUP USER
 
-# From a page: what is pasted to set a list, as N.sh; the list alone, as N.txt; its rows of a table,
-# as N.table, which are those of the table below it, or those of its folder and of each folder in a
-# table of all lists; and a line 'N PATH dacl' or 'N PATH sacl' each, which is printed.
+# From a page: what is pasted to set a list, as N.sh, where what rooms-admin does is done by the
+# program alone; the list alone, as N.txt; its rows of a table, as N.table, which are those of the
+# table below it, or those of its folder and of each folder in a table of all lists; and a line 'N
+# PATH dacl' or 'N PATH sacl' each, which is printed.
 take_lists() { # PAGE FOLDER
   mkdir -p "$2"
   awk -v into="$2" \
@@ -17,6 +18,11 @@ take_lists() { # PAGE FOLDER
     /^(\$ )?rooms reset office\.rooms [^ ]+ [ds]acl <<END$/ {
       sub(/^\$ /, ""); file = into "/" ++n; pasted = 1; print n, $4, $5; print >(file ".sh")
       place[n] = $5 == "dacl" ? $4 : ""; next
+    }
+    /^rooms-admin list set (--sacl )?[^ ]+ <<END$/ {
+      which = $4 == "--sacl" ? "sacl" : "dacl"; path = $(NF - 1); file = into "/" ++n; pasted = 1
+      print n, path, which; print "rooms reset office.rooms", path, which, "<<END" >(file ".sh")
+      place[n] = which == "dacl" ? path : ""; next
     }
     pasted { print >(file ".sh"); if ($0 == "END") pasted = 0; else print >(file ".txt"); next }
     $0 == "| " substr(header, 7) { table = 1; next }
