@@ -156,12 +156,6 @@ status_of() { # WORD ..: of a run that nobody reads
 }
 holds 'output that nobody reads' [ "$(status_of --manual)" = 0 ]
 holds 'a refusal that nobody reads' [ "$(status_of no-such-verb)" = 2 ]
-mkdir -p unread/etc/rooms
-printf '%s\n' FILE=/F BACKUPS=/b KEEP=1 >unread/etc/rooms/office.conf
-holds 'a change that nobody reads' \
-  [ "$(status_of set --destdir "$PWD/unread" KEEP=2 HOURS=3)" = 0 ]
-holds 'is done whole' \
-  [ "$(tail -n 2 unread/etc/rooms/office.conf | tr '\n' ' ')" = 'KEEP=2 HOURS=3 ' ]
 "$admin" --help >/dev/full 2>"$work/err"
 holds 'a full disk is a fault' [ "$?" = 1 ]
 

@@ -41,8 +41,9 @@ chmod 640 new/var/lib/rooms-passwords/rooms*
 "$repo/admin/rooms-admin" add --destdir "$PWD/old" --title Invoices invoices >/dev/null
 sed -i "s#^PROGRAM=.*#PROGRAM=$rooms#" old/etc/rooms/invoices.conf
 sed -i 's/^KEEP=.*/KEEP=7/' old/etc/rooms/office.conf
-echo "alice:\$2y\$05\$$(printf 'x%.0s' {1..53})" >old/var/lib/rooms-passwords/rooms.htpasswd
-echo "carol:\$2y\$05\$$(printf 'y%.0s' {1..53})" >old/var/lib/rooms-passwords/rooms-invoices.htpasswd
+hash='$2y$05$'$(printf 'x%.0s' {1..53})
+echo "alice:$hash" >old/var/lib/rooms-passwords/rooms.htpasswd
+echo "carol:$hash" >old/var/lib/rooms-passwords/rooms-invoices.htpasswd
 chmod 640 old/var/lib/rooms-passwords/rooms*
 sed -i 's/rooms.example/rooms.office.example/' old/etc/rooms/site
 echo '# mine' >old/etc/rooms/nginx/server.d/mine.conf

@@ -4,6 +4,7 @@ refuses_words 'no subcommand'
 refuses_words 'unknown subcommand' paint
 refuses_words 'help is no subcommand' help
 refuses_words 'check takes nothing' check more
+refuses_words 'would takes nothing' would more
 refuses_words 'init wants three' init F root
 refuses_words 'init takes three' init F root staff more
 refuses_words 'serve wants a file' serve
@@ -41,7 +42,7 @@ run --help
 holds 'help' [ "$status" = 2 ]
 holds 'help (standard output)' [ ! -s "$work/out" ]
 cp "$work/err" help
-for name in check init serve groups groups-out audit dump get review reset verify migrate; do
+for name in check would init serve groups groups-out audit dump get review reset verify migrate; do
   holds "help names $name" grep -q "^  $name " help
   run "$name" --help
   holds "help of $name" [ "$status" = 2 ]

@@ -368,10 +368,16 @@ def place(path: str) -> Place:
     return Place(name=name_of(path), **given(Place, path, got))
 
 
+def having(rows: Iterable[str], name: str) -> list[int]:
+    """Which lines of settings have a value of that name."""
+    return [at for at, row in enumerate(rows) if row.startswith(f"{name}=")]
+
+
 def last(rows: Iterable[str], name: str) -> str | None:
     """The last value of a name, in lines of settings that were read without a look at the rest."""
-    found = [row for row in rows if row.startswith(f"{name}=")]
-    return found[-1].partition("=")[2] if found else None
+    rows = list(rows)
+    found = having(rows, name)
+    return rows[found[-1]].partition("=")[2] if found else None
 
 
 def value(path: str, name: str) -> str:

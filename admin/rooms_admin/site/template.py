@@ -22,7 +22,7 @@ _PART = re.compile(r"^@part ([a-z.-]+)@\n", re.M)
 # A line for each field that nginx doesn't pass on, of what it asks by this protocol.
 _HIDE = re.compile(r"^@hide ([a-z]+)@\n", re.M)
 _SUM = re.compile(r"checksum\n# ([0-9a-f]{64}|@SUM@)\.\n", re.ASCII)
-# A room's own (docs/http.md).
+# A room's own (docs/http.md); the first four change what is there, or its bytes.
 ROUTES = ("doc", "folder", "object", "move", "dacl", "sacl", "attr", "can")
 # What the site itself has at '/': the routes of office, its page, the start page, the check of
 # passwords. No room has such a name.
@@ -144,6 +144,7 @@ def render(text: str, site: Site) -> str:
                                                  for row in _upstreams(one)))
     for name, value in (
             ("ROUTES", "|".join(ROUTES)), ("BUT_DOC", "|".join(ROUTES[1:])),
+            ("DATED", "|".join(ROUTES[:4])),
             ("HOSTS", " ".join(front.hosts + [one.host for one in shown if one.host])),
             ("CERTIFICATE", front.certificate), ("KEY", front.key), ("PAGE", site.page),
             ("ERRORS", os.path.join(os.path.dirname(site.page), "errors")),

@@ -11,7 +11,7 @@ def changed(text: str, wanted: dict[str, str]) -> str:
     """Each value in the place of its last line, or at the end. All other lines stay."""
     rows = text.split("\n")
     for name, new in wanted.items():
-        at = [n for n, row in enumerate(rows) if row.startswith(f"{name}=")]
+        at = settings.having(rows, name)
         if at:
             rows[at[-1]] = f"{name}={new}"
         else:

@@ -1,6 +1,7 @@
 //! The words of the process and what it is given to read.
 use cli_check::tell_check;
 use cli_words::{Input, Job, Stop, Task, read_task};
+use cli_would::tell_would;
 use std::io::ErrorKind;
 use std::{env, fs, io};
 
@@ -18,6 +19,16 @@ pub fn words_of(rt: &HostRuntime) -> Result<Vec<String>, Stop> {
 /// Judges the list on standard input as `tell_check` does, and answers the exit status.
 pub fn check(rt: &HostRuntime) -> u8 {
     tell_check(
+        rt.alloc(),
+        &mut rt.reader(),
+        &mut rt.stdout(),
+        &mut rt.stderr(),
+    )
+}
+
+/// Answers the question on standard input as `tell_would` does, and answers the exit status.
+pub fn would(rt: &HostRuntime) -> u8 {
+    tell_would(
         rt.alloc(),
         &mut rt.reader(),
         &mut rt.stdout(),

@@ -6,4 +6,4 @@ mod given;
 mod unopened;
 
 pub use files::{close, connect, make_file, take_away, test_room};
-pub use given::{check, task_for, words_of};
+pub use given::{check, task_for, words_of, would};

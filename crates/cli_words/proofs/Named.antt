@@ -1,4 +1,4 @@
--- A line without fault names one of the twelve subcommands, and has the words that it wants.
+-- A line without fault names one of the thirteen subcommands, and has the words that it wants.
 use Rattle.std.proofs.Common.{◌≡◌, ◌∙◌, ap, sym, subst, refl, true, false, Bool, List, [], ◌∷◌}
 use Rattle.std.proofs.Common.{Option, Some, None, inl, inr, is_some, ◌||◌, codes, arith, rules}
 use Rattle.std.proofs.{Math.Bool.or-false, lemmas.Bool.{and_parts, both_ways, false≢true, or_cases}}
@@ -138,33 +138,38 @@ all_read : (names : Bor (List (Bor Text))) → AreAttributes names
 all_read names two = (
   reads _ refl refl refl refl (inl refl),
   (
-    reads _ refl refl refl refl (inr (inl refl)),
+    reads _ refl refl refl refl
+        (inr (inr (inr (inr (inr (inr (inr (inr (inr (inr (inr (inr refl)))))))))))),
     (
-      serve_read _ refl refl refl refl (λ text. refl) refl refl (λ text. refl) refl
-          (inr (inr (inl refl))),
+      reads _ refl refl refl refl (inr (inl refl)),
       (
-        reads _ refl refl refl refl (inr (inr (inr (inl refl)))),
+        serve_read _ refl refl refl refl (λ text. refl) refl refl (λ text. refl) refl
+            (inr (inr (inl refl))),
         (
-          reads _ refl refl refl refl (inr (inr (inr (inr (inl refl))))),
+          reads _ refl refl refl refl (inr (inr (inr (inl refl)))),
           (
-            reads _ refl refl refl refl (inr (inr (inr (inr (inr (inl refl)))))),
+            reads _ refl refl refl refl (inr (inr (inr (inr (inl refl))))),
             (
-              reads _ refl refl refl refl (inr (inr (inr (inr (inr (inr (inl refl))))))),
+              reads _ refl refl refl refl (inr (inr (inr (inr (inr (inl refl)))))),
               (
-                reads _ refl refl refl refl
-                    (inr (inr (inr (inr (inr (inr (inr (inr (inr (inr (inr refl))))))))))),
+                reads _ refl refl refl refl (inr (inr (inr (inr (inr (inr (inl refl))))))),
                 (
-                  reads _ refl refl refl refl (inr (inr (inr (inr (inr (inr (inr (inl refl)))))))),
+                  reads _ refl refl refl refl
+                      (inr (inr (inr (inr (inr (inr (inr (inr (inr (inr (inr (inl refl)))))))))))),
                   (
-                    reset_read names two _ refl refl refl (λ text. refl) refl
-                        (inr (inr (inr (inr (inr (inr (inr (inr (inl refl))))))))),
+                    reads _ refl refl refl refl
+                        (inr (inr (inr (inr (inr (inr (inr (inl refl)))))))),
                     (
-                      reads _ refl refl refl refl
-                          (inr (inr (inr (inr (inr (inr (inr (inr (inr (inl refl)))))))))),
+                      reset_read names two _ refl refl refl (λ text. refl) refl
+                          (inr (inr (inr (inr (inr (inr (inr (inr (inl refl))))))))),
                       (
                         reads _ refl refl refl refl
                             (inr (inr (inr (inr (inr (inr (inr (inr (inr (inr (inl refl))))))))))),
-                        tt,
+                        (
+                          reads _ refl refl refl refl
+                              (inr (inr (inr (inr (inr (inr (inr (inr (inr (inl refl)))))))))),
+                          tt,
+                        ),
                       ),
                     ),
                   ),

@@ -67,7 +67,9 @@ wanted_with_file name =
 -- The arguments that a subcommand of this name can't do without.
 abbrev pub wanted_by : Text → List Text
 wanted_by name =
-    if bytes_eq name (codes "check") then [] else codes "FILE" ∷ wanted_with_file name
+    if bytes_eq name (codes "check") then []
+    else if bytes_eq name (codes "would") then []
+    else codes "FILE" ∷ wanted_with_file name
 
 -- The name of one of the two lists.
 abbrev pub IsList : Text → Type 0
@@ -137,18 +139,20 @@ IsJob name rows job.Migrate = name ≡ codes "migrate"
 -- A subcommand of this name, with its words.
 abbrev pub IsMet : Text → List Row → Command → Type 0
 IsMet name rows command.Check = name ≡ codes "check"
+IsMet name rows command.Would = name ≡ codes "would"
 IsMet name rows (command.Serve file address count) = (name ≡ codes "serve")
     × (file.now ≡ word (codes "FILE") rows) × IsAddress rows address
     × IsNumber 32 1 (one_of (codes "count") rows) count
 IsMet name rows (command.On file job) =
     (file.now ≡ word (codes "FILE") rows) × IsJob name rows job
 
--- One of the twelve names of subcommands.
+-- One of the thirteen names of subcommands.
 abbrev pub IsName : Text → Type 0
 IsName name = (name ≡ codes "check") ⊎ ((name ≡ codes "init") ⊎ ((name ≡ codes "serve")
     ⊎ ((name ≡ codes "groups") ⊎ ((name ≡ codes "groups-out") ⊎ ((name ≡ codes "audit")
     ⊎ ((name ≡ codes "dump") ⊎ ((name ≡ codes "review") ⊎ ((name ≡ codes "reset")
-    ⊎ ((name ≡ codes "verify") ⊎ ((name ≡ codes "migrate") ⊎ (name ≡ codes "get")))))))))))
+    ⊎ ((name ≡ codes "migrate") ⊎ ((name ≡ codes "verify") ⊎ ((name ≡ codes "get")
+    ⊎ (name ≡ codes "would"))))))))))))
 
 -- One of them was found, with the words that it wants.
 abbrev pub IsWhole : Option (Text × List Row) → Type 0

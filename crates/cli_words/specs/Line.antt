@@ -95,7 +95,7 @@ abbrev pub groups : App
 groups = sub (codes "groups") (file ∷ csv ∷ pair (codes "join") ∷ pair (codes "leave") ∷ [])
 
 abbrev pub making : List App
-making = sub (codes "check") [] ∷ init ∷ serve ∷ groups ∷ []
+making = sub (codes "check") [] ∷ sub (codes "would") [] ∷ init ∷ serve ∷ groups ∷ []
 
 abbrev pub telling : List App
 telling =
@@ -106,7 +106,7 @@ abbrev pub keeping : Bor (List (Bor Text)) → List App
 keeping names =
     reset names ∷ over_file (codes "verify") ∷ over_file (codes "migrate") ∷ []
 
--- all twelve subcommands
+-- all thirteen subcommands
 abbrev pub command_line : Bor (List (Bor Text)) → App
 command_line names = with_all (keeping names) (with_all telling (with_all making program))
 

@@ -11,6 +11,8 @@ use room_entry::Which;
 pub enum Command<'a> {
     /// Judges the list that the standard input holds.
     Check,
+    /// Answers the question that the standard input holds.
+    Would,
     /// Serves this number of connections at this address, one after the other.
     Serve {
         file: &'a str,

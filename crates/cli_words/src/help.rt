@@ -24,6 +24,39 @@ The answer is one line, with its status:
 
 Example: rooms check < input.txt";
 
+// Of the lines, the answer and the statuses of `would`.
+pub(crate) const WOULD: &str = "\
+The question has a piece of a room, what is to change in it, and a list below
+each object and below each set:
+
+member staff bob
+folder alice staff /
+list:a
+A:fd:OWNER@:rwanNxDtThHdcCoy
+A:fdg:staff:rx
+document alice staff /plan.txt
+follows
+set /plan.txt
+list:p
+A::OWNER@:rwanNxDtThHdcCoy
+
+The lines come in this order: member GROUP USER, and as LABEL USER GROUP,GROUP;
+folder OWNER GROUP PATH, or document, the root first; then changes, which are set
+PATH, move PATH with to PATH below it, and folder+ or document+ for what comes. In
+their place look PATH changes nothing. lists, at the end, asks for lists too.
+follows stands for the list of an object without an entry of its own, and unread
+for one that is not known.
+
+The answer is a row path,kind,user,rights,remove,then,then_remove, and then a row
+for each object and caller: what the caller may do before, and then. All rows of
+the first object stand, and below it those that the folder's rows don't say.
+
+  0  the rows
+  2  refused: line N: why
+  3  a fault, printed on standard error
+
+Example: rooms would < question.txt";
+
 pub(crate) const INIT: &str = "\
 The room has its root alone, a folder of this owner and this group, without
 members and records. The root's dacl is

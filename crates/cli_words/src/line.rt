@@ -186,12 +186,25 @@ fn program<'a>(alloc: Global) -> Command<'a>
         .disable_help_subcommand(true)
 }
 
+// A subcommand that has no words.
+fn bare<'a>(alloc: Global, name: &'a str, about: &'a str, help: &'a str) -> Command<'a>
+    ensures { IsLine (sub name.now []) result }
+{
+    Command::new(alloc, name).about(about).after_help(help)
+}
+
 fn check<'a>(alloc: Global) -> Command<'a>
     ensures { IsLine (sub (codes "check") []) result }
 {
-    Command::new(alloc, "check")
-        .about("Judges the list on the standard input for a caller")
-        .after_help(help::CHECK)
+    let about = "Judges the list on the standard input for a caller";
+    bare(alloc, "check", about, help::CHECK)
+}
+
+fn would<'a>(alloc: Global) -> Command<'a>
+    ensures { IsLine (sub (codes "would") []) result }
+{
+    let about = "Writes what a change would bring about, of a question on the standard input";
+    bare(alloc, "would", about, help::WOULD)
 }
 
 // Adds a subcommand that was made.
@@ -210,6 +223,7 @@ fn with_making<'a>(alloc: Global) -> Result<Command<'a>, AllocError>
     ensures { IfOk result (IsLine (with_all making program)) }
 {
     let line = program(alloc).subcommand(check(alloc))?;
+    let line = line.subcommand(would(alloc))?;
     let line = with(line, init(alloc))?;
     let line = with(line, serve(alloc))?;
     with(line, groups(alloc))

@@ -201,6 +201,7 @@ fn met<'a>(
 {
     Ok(match name {
         "check" => Some(Command::Check),
+        "would" => Some(Command::Would),
         "serve" => Some(serve(words)),
         "init" => Some(Command::On(word(words, FILE), init(words))),
         "groups" => Some(Command::On(word(words, FILE), groups(alloc, words)?)),

@@ -2,9 +2,11 @@
 //!
 //! # Subcommands
 //!
-//! A room is a file, and each of these but `check` works on one.
+//! A room is a file, and each of these but `check` and `would` works on one.
 //!
 //! - `check` judges the list on standard input, and needs no room.
+//! - `would` answers the question on standard input as CSV: what each caller may do before a change
+//!   and then. It needs no room either.
 //! - `init FILE OWNER GROUP` makes a new file with an empty room, and prints `ready`.
 //! - `serve FILE --port N --count N` listens on 127.0.0.1, prints `listening 127.0.0.1:N`, serves
 //!   this number of connections one after the other, and ends. With `--socket PATH` it listens on a
@@ -54,7 +56,7 @@
 
 mod work;
 
-use cli_system::{check, words_of};
+use cli_system::{check, words_of, would};
 use cli_words::{Command, Stop, read_command, tell_stop};
 use sqlite_std_file::{Start, Unknown};
 use std::process::ExitCode;
@@ -74,6 +76,7 @@ fn run<S: Start>(rt: &HostRuntime, start: S) -> Result<u8, Stop> {
     let command = read_command(rt.alloc(), words.as_slice())?;
     match command {
         Command::Check => Ok(check(rt)),
+        Command::Would => Ok(would(rt)),
         Command::Serve {
             file,
             address,

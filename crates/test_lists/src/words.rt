@@ -143,6 +143,7 @@ fn words_of_a_review_are_read(rt: HostRuntime) -> Result<(), Fail> {
 #[test]
 fn words_of_a_file_are_read(rt: HostRuntime) -> Result<(), Fail> {
     expect_read(&rt, &["rooms", "check"], Command::Check)?;
+    expect_read(&rt, &["rooms", "would"], Command::Would)?;
     expect_job(&rt, &["rooms", "groups-out", "a.db"], Job::GroupsOut)?;
     expect_job(&rt, &["rooms", "audit", "a.db"], Job::Audit)?;
     expect_job(&rt, &["rooms", "dump", "a.db"], Job::Dump)?;
@@ -230,6 +231,7 @@ fn other_words_are_refused(rt: HostRuntime) -> Result<(), Fail> {
     expect_refused(&rt, &["rooms"], ErrorKind::MissingSubcommand)?;
     expect_refused(&rt, &["rooms", "paint"], ErrorKind::InvalidSubcommand)?;
     expect_refused(&rt, &["rooms", "check", "more"], ErrorKind::UnknownArgument)?;
+    expect_refused(&rt, &["rooms", "would", "more"], ErrorKind::UnknownArgument)?;
     let missing = ErrorKind::MissingRequiredArgument;
     expect_refused(&rt, &["rooms", "verify"], missing)?;
     expect_refused(&rt, &["rooms", "init", "a.db", "alice"], missing)?;
@@ -259,6 +261,8 @@ fn help_tells_statuses_and_an_example(rt: HostRuntime) -> Result<(), Fail> {
     expect_help(&rt, "check", "  2  refused: why")?;
     expect_help(&rt, "check", "\ncaller: alice\n")?;
     expect_help(&rt, "check", "Example: rooms check < input.txt")?;
+    expect_help(&rt, "would", "  2  refused: line N: why")?;
+    expect_help(&rt, "would", "Example: rooms would < question.txt")?;
     expect_help(&rt, "init", "Example: rooms init office.rooms alice staff")?;
     expect_help(
         &rt,

@@ -80,3 +80,15 @@ sets --site --room office KEEP=3
 told 'both' 2 'not allowed with argument'
 holds 'nothing else is left' [ "$(cd machine/etc/rooms && echo *)" = 'bills.on office.conf site' ]
 holds 'nor hidden' [ -z "$(find machine -name '.*')" ]
+
+# Whoever reads the first lines alone ends nothing.
+mkdir -p unread/etc/rooms
+printf '%s\n' FILE=/F BACKUPS=/b KEEP=1 >unread/etc/rooms/office.conf
+{
+  sleep 0.3
+  "$repo/admin/rooms-admin" set --destdir "$PWD/unread" KEEP=2 HOURS=3 </dev/null 2>&1
+  echo "$?" >status
+} | true
+holds 'a change that nobody reads' [ "$(cat status)" = 0 ]
+holds 'is done whole' \
+  [ "$(tail -n 2 unread/etc/rooms/office.conf | tr '\n' ' ')" = 'KEEP=2 HOURS=3 ' ]

@@ -1,0 +1,9 @@
+pub mod Asking
+pub mod Faults
+pub mod Lists
+pub mod Laws
+pub mod Looking
+pub mod Names
+pub mod Parties
+pub mod Paths
+pub mod Would
