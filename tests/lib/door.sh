@@ -1,14 +1,24 @@
 # The door beside a room that is served at its socket below ./run.
 
 doors=()
+# Where rooms would is asked: a process for each question, as systemd starts it.
+start_would() {
+  [ ! -S run/would ] || return 0
+  mkdir -p run
+  python3 "$here/lib/inetd.py" "$PWD/run/would" 8 sh "$here/lib/answer-would.sh" "$rooms" \
+    2>>would.err &
+  others+=($!)
+  until [ -S run/would ]; do sleep 0.02; done
+}
 # Starts it, and waits until it listens.
 start_door() { # ROOM ARGUMENT ..
   local began=$SECONDS
   mkdir -p "run/door/$1"
+  start_would
   : >"$1.err"
   python3 -IB "$repo/services/rooms_services/door/__main__.py" \
     --room "$PWD/run/rooms/$1/socket" --listen "$PWD/run/door/$1/socket" \
-    --full "$PWD/run/rooms-full/$1.full" "${@:2}" 2>"$1.err" &
+    --full "$PWD/run/rooms-full/$1.full" --would "$PWD/run/would" "${@:2}" 2>"$1.err" &
   others+=($!)
   doors+=($!)
   until [ -s "$1.err" ] || [ $((SECONDS - began)) -ge "$patience" ]; do sleep 0.02; done

@@ -47,12 +47,14 @@ set_list F / dacl list:a "A:fd:root:$ALL" A:fd:alice:rwxact A::bob:x A::carol:rx
 start_room F 1000000 || return
 printf 'root:{PLAIN}r\nalice:{PLAIN}a\nbob:{PLAIN}b\ncarol:{PLAIN}c\n' >rooms.htpasswd
 start_front 'the door' || return
+. "$here/lib/door.sh"
+start_would
 start_door() {
   local began=$SECONDS
   mkdir -p run/door/office
   : >door.err
   python3 -IB "$services/rooms_services/door/__main__.py" --room "$PWD/run/rooms/office/socket" \
-    --listen "$PWD/run/door/office/socket" "$@" >door.out 2>door.err &
+    --listen "$PWD/run/door/office/socket" --would "$PWD/run/would" "$@" >door.out 2>door.err &
   door=$!
   others+=("$door")
   until [ -s door.err ] || [ $((SECONDS - began)) -ge "$patience" ]; do sleep 0.02; done

@@ -9,6 +9,7 @@ import unittest
 
 from fake_room import FakeRoom, Served
 from rooms_services.room.room import Room
+from rooms_services.door.folders.would import Would
 from rooms_services.door.serve import Door, opened
 from rooms_services.door.webdav import calls
 from rooms_services.door.webdav.kept import Kept
@@ -39,7 +40,7 @@ class Over(unittest.TestCase):
         self.behind = Served(self.at("room"), self.room)
         self.full = self.at("full")
         drive = calls.Drive(Kept(self.at("locks")), self.full)
-        self.door = Door(Room(self.at("room")), drive, self.full)
+        self.door = Door(Room(self.at("room")), Would(self.at("would")), drive, self.full)
         self.front = opened(self.at("door"), self.door)
         for server in (self.behind, self.front):
             threading.Thread(target=server.serve_forever, args=(0.01,), daemon=True).start()

@@ -32,6 +32,7 @@ def main() -> int:
     words.add_argument("--room", required=True, help="the socket of the room")
     words.add_argument("--listen", required=True,
                        help="the socket at which nginx asks; whoever reaches it can be any user")
+    words.add_argument("--would", default="", help="the socket at which rooms would is asked")
     words.add_argument("--drive", choices=("yes", ""), default="",
                        help="yes: documents are edited in place, by WebDAV below /drive/")
     words.add_argument("--full", default="",
@@ -48,7 +49,7 @@ def main() -> int:
         mark = os.path.join(os.path.dirname(given.listen), "dates")
         keeper = begun(given.changes, given.dates, given.told, given.days, mark)
         signal.signal(signal.SIGTERM, signal.default_int_handler)
-        serve(given.room, given.listen, given.drive == "yes", given.full, keeper)
+        serve(given.room, given.listen, given.would, given.drive == "yes", given.full, keeper)
     except KeyboardInterrupt:
         pass
     except OSError as fault:

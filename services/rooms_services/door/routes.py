@@ -12,15 +12,18 @@ from .folders.closed import closed
 from .folders.find import find
 from .folders.goes import goes
 from .folders.matched import condition_of, read, replace, tag_alone
+from .folders.would import Would, would
 from ..room.paths import Names, chosen_in, names_in
 from ..room.room import Room
 
 PREFIX = "/door/"
 # What may take long, each with its kind.
 LONG_ROUTES = {"below": "walk", "closed": "walk", "find": "walk", "folder": "walk", "goes": "walk",
-               "latest": "walk", "zip": "zip"}
+               "latest": "walk", "would": "walk", "zip": "zip"}
 # Behind what a query may stand.
 _ASKING = ("below", "find", "goes", "zip")
+# Behind what no path stands.
+_PATHLESS = ("would",)
 
 
 @dataclass(frozen=True)
@@ -37,6 +40,7 @@ class Asked:
     body: bytes
     # None where no dates are kept.
     keeper: Keeper | None
+    would: Would
 
     def conditions(self) -> tuple[str, str]:
         return self.field("If-Match"), self.field("If-None-Match")
@@ -87,11 +91,15 @@ def _replace(asked: Asked) -> Answer:
                    condition_of(*asked.conditions()))
 
 
+def _would(asked: Asked) -> Answer:
+    return would(asked.would, asked.body)
+
+
 _MATCHED: dict[str, Route] = {"GET": _read, "HEAD": _tag, "PUT": _replace}
 ROUTES: dict[str, dict[str, Route]] = {
     "below": {"GET": _below}, "closed": {"GET": _closed}, "find": {"GET": _find},
     "folder": {"GET": _folder}, "goes": {"GET": _goes}, "latest": {"GET": _latest},
-    "zip": {"GET": _zip},
+    "would": {"POST": _would}, "zip": {"GET": _zip},
     "doc": _MATCHED, "dacl": _MATCHED, "sacl": _MATCHED}
 
 
@@ -101,7 +109,7 @@ def place_of(target: str) -> tuple[str, str, str]:
         raise Stop(404, "no-route")
     whole, mark, query = target.partition("?")
     route, slash, rest = whole[len(PREFIX):].partition("/")
-    if route not in ROUTES or not slash:
+    if route not in ROUTES or (route in _PATHLESS) == bool(slash):
         raise Stop(404, "no-route")
     if mark and route not in _ASKING:
         raise Stop(400, "bad-query", "no query may stand here")

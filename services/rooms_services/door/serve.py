@@ -16,6 +16,7 @@ from ..room.room import LARGEST, USER, Room
 from .routes import LONG_ROUTES, PREFIX, Asked, route_of
 from ..room.turns import Users
 from .changes.keeper import Keeper
+from .folders.would import Would
 from .webdav.calls import Drive
 from .webdav.kept import Kept
 from .webdav.methods import LONG_METHODS, answer
@@ -33,9 +34,10 @@ class Door:
     """A door may have no drive, and keep no dates. `full` is the path of a file that is there while
     the room takes no more."""
 
-    def __init__(self, room: Room, drive: Drive | None = None, full: str = "",
+    def __init__(self, room: Room, would: Would, drive: Drive | None = None, full: str = "",
                  keeper: Keeper | None = None) -> None:
         self.room = room
+        self.would = would
         self.drive = drive
         self.keeper = keeper
         self.users = Users()
@@ -146,7 +148,7 @@ class Handler(http.server.BaseHTTPRequestHandler):
                               self._field, body)
             route, word, names, query = route_of(self.command, self.path)
             return route(Asked(self.door.room, user, self.command, word, names, query,
-                               self._field, body, self.door.keeper))
+                               self._field, body, self.door.keeper, self.door.would))
         except Stop as stop:
             return stop.answer(drive is not None)
         except OSError:
@@ -233,11 +235,12 @@ def opened(place: str, door: Door) -> Server:
     return Server(place, type("Opened", (Handler,), {"door": door}))
 
 
-def serve(room: str, listen: str, has_drive: bool, full: str, keeper: Keeper | None) -> None:
+def serve(room: str, listen: str, would: str, has_drive: bool, full: str,
+          keeper: Keeper | None) -> None:
     kept = os.path.join(os.path.dirname(listen), "locks")
     drive = Drive(Kept(kept), full) if has_drive else None
     asked = Room(room, note=keeper.note if keeper else None)
-    with opened(listen, Door(asked, drive, full, keeper)) as server:
+    with opened(listen, Door(asked, Would(would), drive, full, keeper)) as server:
         if keeper:
             threading.Thread(target=keeper.run, daemon=True).start()
         print(f"listening {listen}", file=sys.stderr, flush=True)
