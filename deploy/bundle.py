@@ -23,7 +23,7 @@ _OTHER = re.compile(r"^(?:import|export)\b.*|\bimport\((?!'\./page-)", re.MULTIL
 # Lines that are for whoever reads web.
 _COMMENT = re.compile(r"^ *(?://|/\*\* .* \*/$).*\n", re.MULTILINE)
 _PATH = re.compile(r"(?<=')(?:\.{1,2}/)+(?:[a-z]+/)*(?=[a-z_]+\.js')")
-_STYLE = re.compile(r' *<link rel="stylesheet" href="([a-z_]+\.css)">\n')
+_STYLE = re.compile(r' *<link rel="stylesheet" href="([a-z_/]+\.css)">\n')
 _SCRIPT = '<script type="module" src="app.js">'
 
 

@@ -19,13 +19,17 @@ ROOT = _MADE.name
 os.environ["ROOMS_ROOT"] = ROOT
 sys.path.insert(0, os.path.join(os.path.dirname(__file__), "..", "..", "admin"))
 
-from rooms_admin.cli.report import Stop  # noqa: E402
 from rooms_admin.host import tempdirs, waiting  # noqa: E402
-from rooms_admin.room import (dump, health, machine, members, passwords, program,  # noqa: E402
-                              server, settings)
+from rooms_admin.room import health, program, server, settings  # noqa: E402
+from rooms_admin.passwords import passwords  # noqa: E402
+from rooms_admin.lists import dump, records  # noqa: E402
+from rooms_admin.people import handing_over, members  # noqa: E402
+from rooms_admin.directory import groups  # noqa: E402
+from rooms_admin.machine_tar import machine  # noqa: E402
+from rooms_admin.check import watched  # noqa: E402
+from rooms_admin.cli.report import Stop  # noqa: E402
 from rooms_admin.room.size import Used  # noqa: E402
-from rooms_admin.site.directory import Directory  # noqa: E402
-from rooms_admin.verbs import groups, handover, records, watched  # noqa: E402
+from rooms_admin.directory.directory import Directory  # noqa: E402
 
 # More than Python's functions go into one another.
 DEEP = 1500
@@ -233,7 +237,7 @@ class Says(unittest.TestCase):
         with tempfile.NamedTemporaryFile() as lists, self.assertRaisesRegex(Stop, "^no lists: "):
             lists.write(b"folder bob staff /\nfolder bob staff ../x\n")
             lists.flush()
-            list(handover.rows(lists.name))
+            list(handing_over.rows(lists.name))
         with self.assertRaisesRegex(Stop, "^the groups can't be read: "):
             members.of_text("group,user\nstaff,a b\n")
         for one in ("../x,/,r,yes", "bob,x,r,yes", "bob,/,q,yes", "bob,/,r,maybe"):

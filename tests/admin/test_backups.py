@@ -15,13 +15,17 @@ from typing import IO
 
 sys.path.insert(0, os.path.join(os.path.dirname(__file__), "..", "..", "admin"))
 
-from rooms_admin.cli.report import Refused, Stop  # noqa: E402
 from rooms_admin.host import locks, safe, tempdirs, waiting  # noqa: E402
-from rooms_admin.room import (backups, dump, known, members, passwords,  # noqa: E402
-                              program, published, server, settings, texts, tidying)
-from rooms_admin.room.backups import Backup  # noqa: E402
+from rooms_admin.room import program, published, server, settings  # noqa: E402
+from rooms_admin.passwords import passwords  # noqa: E402
+from rooms_admin.backup import backups, hours, texts, tidying  # noqa: E402
+from rooms_admin.lists import dump  # noqa: E402
+from rooms_admin.people import known, members, offered  # noqa: E402
+from rooms_admin.directory import groups  # noqa: E402
+from rooms_admin.verbs import backups as listing, latest  # noqa: E402
+from rooms_admin.cli.report import Refused, Stop  # noqa: E402
 from rooms_admin.room.keep import Keep, read  # noqa: E402
-from rooms_admin.verbs import backups as listing, groups, hours, latest, people  # noqa: E402
+from rooms_admin.backup.backups import Backup  # noqa: E402
 
 
 class Folder(unittest.TestCase):
@@ -178,7 +182,7 @@ class Found(Folder):
                 self.assertIsNone(known.kept(self.room))
                 for shown in ("no", "names"):
                     room = dataclasses.replace(self.room, people=shown)
-                    self.assertEqual(people.write(room, known.here(room, both)), [])
+                    self.assertEqual(offered.write(room, known.here(room, both)), [])
                     self.assertEqual((run.known(), known.newest(room).members), (both, both))
             # What isn't of this file is no news for groups.
             known.keep(self.room, known.Known({("a", "b")}, 0))

@@ -11,20 +11,25 @@ from unittest.mock import patch
 
 sys.path.insert(0, os.path.join(os.path.dirname(__file__), "..", "..", "admin"))
 
-from rooms_admin.room import limit, machine, needs, size  # noqa: E402
+from rooms_admin.host import root  # noqa: E402
+from rooms_admin.room import fullness, limit, needs, size  # noqa: E402
+from rooms_admin.backup import night  # noqa: E402
+from rooms_admin.check import watched  # noqa: E402
 from rooms_admin.room.needs import Need  # noqa: E402
-from rooms_admin.verbs import backup, full, watched  # noqa: E402
 from test_backups import Folder  # noqa: E402
+
+# Nothing follows from these copies.
+NOTHING = night.Beside(lambda place, version: [], lambda room: ("", False), [])
 
 
 class Night(Folder):
     def night(self, status: int, text: str, word: str) -> list[str]:
-        night = backup.Night(self.room)
-        night.kept = self.backup("2026-11-30.040000", 1)
-        with patch.object(night, "on_copy", return_value=(status, b"", text)), \
+        run = night.Night(self.room, NOTHING)
+        run.kept = self.backup("2026-11-30.040000", 1)
+        with patch.object(run, "on_copy", return_value=(status, b"", text)), \
                 contextlib.redirect_stderr(io.StringIO()):
-            night.write_text("records.csv", word, [])
-        return night.failures
+            run.write_text("records.csv", word, [])
+        return run.failures
 
     def test_very_many_records_are_named(self) -> None:
         """Where the program has no memory for them, and where it is killed for it."""
@@ -45,7 +50,7 @@ class Needs(Folder):
         os.makedirs(f"{self.home}/proc")
         self.has(0, 0)
         for module, name, value in ((needs, "FOLDER", f"{self.home}/var/lib/rooms-need"),
-                                    (machine, "ROOT", self.home),
+                                    (root, "ROOT", self.home),
                                     (limit, "_allowed", lambda unit: self.allowed[unit]),
                                     (limit, "_count", lambda: 1)):
             patched = patch.object(module, name, value)
@@ -125,8 +130,8 @@ class Needs(Folder):
             1, "the nightly run needs 302 MB beside the server: 60 MB of swap are missing"))
 
     def test_a_watch_goes_by_a_night(self) -> None:
-        with patch.object(full, "Reader"), patch.object(full, "FOLDER", self.home):
-            watch = full.Watch(self.room)
+        with patch.object(fullness, "Reader"), patch.object(fullness, "FOLDER", self.home):
+            watch = fullness.Watch(self.room)
             self.assertEqual(watch.limit, 816)
             watch.used.look = lambda: 0  # type: ignore[method-assign]
             needs.put("office", Need("2026-11-30.040000", 49, 282))
@@ -134,22 +139,22 @@ class Needs(Folder):
             self.assertEqual(watch.limit, 404)
 
     def test_a_night_writes_it_down(self) -> None:
-        night = backup.Night(self.room)
-        night.date = "2026-11-30.040000"
-        night.kept = self.backup(night.date, 1)
-        with open(f"{night.kept}/office.rooms", "wb") as file:
+        run = night.Night(self.room, NOTHING)
+        run.date = "2026-11-30.040000"
+        run.kept = self.backup(run.date, 1)
+        with open(f"{run.kept}/office.rooms", "wb") as file:
             file.write(struct.pack(">16sH10xI4xI", b"SQLite format 3\0", 4096, 2560, 0))
         with patch.object(resource, "getrusage") as took:
             took.return_value.ru_maxrss = 50 << 10
-            night.note_need()
-        self.assertEqual(needs.all_of("office"), [Need(night.date, 10, 50)])
-        self.assertEqual(night.failures, [])
+            run.note_need()
+        self.assertEqual(needs.all_of("office"), [Need(run.date, 10, 50)])
+        self.assertEqual(run.failures, [])
         os.unlink(f"{needs.FOLDER}/office")
         os.rmdir(needs.FOLDER)
         open(needs.FOLDER, "w").close()
         with contextlib.redirect_stderr(io.StringIO()):
-            night.note_need()
-        self.assertIn("rooms-need can't be written: ", night.failures[0])
+            run.note_need()
+        self.assertIn("rooms-need can't be written: ", run.failures[0])
 
 
 if __name__ == "__main__":

@@ -20,8 +20,10 @@ from collections.abc import Iterator
 
 from rooms_admin.cli import report, shared
 from rooms_admin.host import locks, safe
-from rooms_admin.room import end_dates, http_client, known, names, passwords, published, server
-from rooms_admin.verbs import mine, people, until, user
+from rooms_admin.room import http_client, names, published, server
+from rooms_admin.passwords import passwords
+from rooms_admin.lists import end_dates
+from rooms_admin.people import ended, further_down, known, offered, users
 from rooms_admin.room.settings import Room
 
 ROOM = Room(conf="/etc/rooms/office.conf", file="/f/F", port="8780", backups="/b", unit="rooms",
@@ -170,9 +172,9 @@ class Runs(unittest.TestCase):
         self.sent: list[tuple[object, ...]] = []
         self.state, self.status = "active", 0
         for module, name, value in (
-                (until.server, "state", lambda room: self.state),
-                (until.server, "at_rest", self.at_rest),
-                (until.program, "run", self.program)):
+                (ended.server, "state", lambda room: self.state),
+                (ended.server, "at_rest", self.at_rest),
+                (ended.program, "run", self.program)):
             patch = unittest.mock.patch.object(module, name, value)
             patch.start()
             self.addCleanup(patch.stop)
@@ -189,11 +191,11 @@ class Runs(unittest.TestCase):
     def told(self, night: bytes, now: bytes | None = None,
              last: datetime.date | None = None) -> list[str]:
         with tempfile.TemporaryDirectory() as place, unittest.mock.patch.object(
-                until.members, "printed", return_value=night if now is None else now):
+                ended.members, "printed", return_value=night if now is None else now):
             with open(f"{place}/lists.txt", "wb") as lists:
                 lists.write(night)
             with open(f"{place}/lists.txt", "rb") as source:
-                return until.take_back(ROOM, source, last)
+                return ended.take_back(ROOM, source, last)
 
     def test_only_what_a_list_says_now_counts(self) -> None:
         night = dumped(x=["A:fd:bob:r", READ, OVER], y=[READ, OVER])
@@ -229,7 +231,7 @@ class Runs(unittest.TestCase):
     def test_which_day_the_last_backup_is_of(self) -> None:
         with tempfile.TemporaryDirectory() as place:
             room = dataclasses.replace(ROOM, backups=place, file="/f/F")
-            self.assertIsNone(until.last_day(room))
+            self.assertIsNone(ended.last_day(room))
             # By the number that each run gave, whatever the clock said.
             for number, name in ((1, "2036-01-01.040000"), (2, "2026-11-28.040000"),
                                  (3, "2026-11-29.040000")):
@@ -237,9 +239,9 @@ class Runs(unittest.TestCase):
                 pathlib.Path(f"{place}/office/{name}/F").touch()
                 pathlib.Path(f"{place}/office/{name}/run").write_text(f"number {number}\n",
                                                                       encoding="ascii")
-            self.assertEqual(str(until.last_day(room)), "2026-11-29")
+            self.assertEqual(str(ended.last_day(room)), "2026-11-29")
             tonight = f"{place}/office/2026-11-29.040000"
-            self.assertEqual(str(until.last_day(room, tonight)), "2026-11-28")
+            self.assertEqual(str(ended.last_day(room, tonight)), "2026-11-28")
 
     def test_nothing_stops_for_nothing(self) -> None:
         for night in (dumped(x=[READ]), dumped(x=[READ, marked(day="2999-01-01")]),
@@ -261,7 +263,7 @@ class Runs(unittest.TestCase):
                                 " no"])
 
     def test_many_dates_stop_it_for_a_while_only(self) -> None:
-        with unittest.mock.patch.object(until, "REST", -1):
+        with unittest.mock.patch.object(ended, "REST", -1):
             self.told(dumped(x=[READ, OVER], y=[READ, OVER]))
         self.assertEqual((self.stops, self.sent), (1, []))
 
@@ -283,7 +285,7 @@ REVIEW = '''path,kind,user,rights,remove
 
 class Places(unittest.TestCase):
     def test_what_is_not_seen_from_above(self) -> None:
-        found, managers = mine.places(io.StringIO(REVIEW, newline=""))
+        found, managers = further_down.places(io.StringIO(REVIEW, newline=""))
         self.assertEqual(managers, ["alice"])
         self.assertEqual(found["alice"].places, [])
         self.assertEqual([(one["path"], one["rights"]) for one in found["bob"].places],
@@ -299,17 +301,17 @@ class Places(unittest.TestCase):
                                        ["/", "folder", name, "rwaC", "yes"]])
             with self.subTest(name), self.assertRaisesRegex(
                     report.Stop, "^the review can't be read: .* can't be a user or a group"):
-                mine.places(io.StringIO(out.getvalue(), newline=""))
+                further_down.places(io.StringIO(out.getvalue(), newline=""))
         for bad in ("a,folder,bob,r,no", "/a/,folder,bob,r,no", "/a,link,bob,r,no",
                     "/a,folder,bob,q,no", "/a,folder,bob,r,maybe"):
             with self.subTest(bad), self.assertRaisesRegex(report.Stop, "can't be read: "):
-                mine.places([REVIEW.split("\n", maxsplit=1)[0] + "\n", bad + "\n"])
+                further_down.places([REVIEW.split("\n", maxsplit=1)[0] + "\n", bad + "\n"])
 
     def test_what_is_no_review(self) -> None:
         for bad in ("", "at,user\n", "path,kind,user,rights,remove\n/,folder,bob\n",
                     'path,kind,user,rights,remove\n"/,folder,bob,r,no\n'):
             with self.assertRaisesRegex(report.Stop, "the review can't be read"):
-                mine.places(io.StringIO(bad, newline=""))
+                further_down.places(io.StringIO(bad, newline=""))
 
 
 # Reads until its standard input ends, and says how often that failed.
@@ -336,7 +338,7 @@ class Listed(unittest.TestCase):
               unittest.mock.patch.object(server, "state", return_value="active"),
               unittest.mock.patch.object(passwords, "password_files", return_value=[]),
               contextlib.redirect_stdout(out), contextlib.redirect_stderr(io.StringIO())):
-            self.assertEqual(user._list("office", ROOM, False), 0)
+            self.assertEqual(users.show_all("office", ROOM, False), 0)
         self.assertEqual(out.getvalue(), "bob  no password  sta\\x1b]0;ff\\x07\n")
 
 
@@ -387,16 +389,16 @@ class Files(unittest.TestCase):
                       "nobody,Nobody\nbob,Bob Again\na b,A B\neve\ncarl,x\x07\n"
                       f"dan,{'x' * 201}\nerin,x\u202ey\nfay, \n")
         told: list[str] = []
-        got = people.full_names(place, {"bob", "eve", "zoe", "carl", "dan", "erin", "fay"}, told)
+        got = offered.full_names(place, {"bob", "eve", "zoe", "carl", "dan", "erin", "fay"}, told)
         self.assertEqual(got, {"bob": "Bob Lindqvist", "eve": "Moreau, Ève", "zoe": "זואי"})
         self.assertEqual([one.partition("line ")[2].partition(" ")[0] for one in told],
                          ["6", "7", "8", "9", "10", "11", "12"])
         with open(place, "wb") as raw:
             raw.write(b"bob,\xff\n")
         told.clear()
-        self.assertEqual(people.full_names(place, {"bob"}, told), {})
+        self.assertEqual(offered.full_names(place, {"bob"}, told), {})
         self.assertIn("can't be read", told[0])
-        self.assertEqual(people.full_names(place + "x", {"bob"}, told), {})
+        self.assertEqual(offered.full_names(place + "x", {"bob"}, told), {})
 
 
 class Sockets(unittest.TestCase):

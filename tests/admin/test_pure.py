@@ -11,13 +11,14 @@ import tempfile
 import unittest
 import unittest.mock
 
-from rooms_admin.host import safe
-from rooms_admin.room import backups, dump, names, published, settings, waits
-from rooms_admin.host.changes import Changes
-from rooms_admin.site import template, values
-from rooms_admin.verbs import add
 from rooms_admin.cli import manual, report, table, words
+from rooms_admin.host import safe
+from rooms_admin.room import names, published, settings, waits
+from rooms_admin.backup import backups
+from rooms_admin.lists import dump
+from rooms_admin.site import adding, template, values
 from rooms_admin.cli.report import Refused
+from rooms_admin.host.changes import Changes
 from rooms_admin.room.size import Used
 
 HERE = os.path.dirname(os.path.abspath(__file__))
@@ -192,7 +193,7 @@ class Lists(unittest.TestCase):
             self.assertEqual(listed[name], known[name], name)
 
     def test_of_a_room_elsewhere(self) -> None:
-        listed = self.lines(add._text_of("hr", "b.example", "8443", "HR"))
+        listed = self.lines(adding._text_of("hr", "b.example", "8443", "HR"))
         self.assertEqual(listed, settings.ELSEWHERE | {"TITLE": "HR", "ON": "b.example"})
 
     def test_of_the_site(self) -> None:

@@ -10,10 +10,11 @@ import pathlib
 import tempfile
 import unittest
 
+from rooms_admin.room import settings
+from rooms_admin.lists import dump, end_dates, naming, reasons, records, review
+from rooms_admin.verbs import lists
 from rooms_admin import __main__ as command
 from rooms_admin.cli.report import Stop
-from rooms_admin.room import dump, end_dates, naming, reasons, review, settings
-from rooms_admin.verbs import lists, records
 
 ALL = "rwanNxDtThHdcCoy"
 DUMP = f"""folder alice staff /

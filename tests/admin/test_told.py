@@ -13,12 +13,16 @@ import unittest
 import unittest.mock
 
 from rooms_admin.cli import report, words
-from rooms_admin.cli.report import Refused, Stop
 from rooms_admin.host import at_socket, changes, locks, mail, waiting
-from rooms_admin.room import (dump, http_client, names, password_rules, passwords, published,
-                              server, settings, size)
-from rooms_admin.site import guests, password_files, template
-from rooms_admin.verbs import check, full, rooms, tell, user, watched
+from rooms_admin.room import fullness, http_client, names, published, server, settings, size
+from rooms_admin.passwords import password_rules, passwords
+from rooms_admin.lists import dump
+from rooms_admin.people import users
+from rooms_admin.directory import guests
+from rooms_admin.site import password_files, template
+from rooms_admin.check import watched
+from rooms_admin.verbs import check, full, rooms, tell, user
+from rooms_admin.cli.report import Refused, Stop
 
 
 class Killed(unittest.TestCase):
@@ -161,10 +165,10 @@ class Flags(unittest.TestCase):
         with tempfile.TemporaryDirectory() as at:
             flag, elsewhere = f"{at}/office.full", f"{at}/nologin"
             os.symlink(elsewhere, flag)
-            self.assertTrue(full._put(flag))
+            self.assertTrue(fullness._put(flag))
             self.assertFalse(os.path.lexists(elsewhere))
             self.assertFalse(os.path.islink(flag))
-            self.assertFalse(full._put(flag))
+            self.assertFalse(fullness._put(flag))
 
     def test_it_is_not_for_terminals(self) -> None:
         with unittest.mock.patch.object(settings, "room"), \
@@ -306,7 +310,7 @@ class Guests(unittest.TestCase):
 
 
 class Words(unittest.TestCase):
-    def typed(self, text: str) -> user.Words:
+    def typed(self, text: str) -> users.Words:
         """As they are typed."""
         return user.read_words(words.read("user", user, text.split()))
 
@@ -316,17 +320,17 @@ class Words(unittest.TestCase):
                       "add newbie --groups sales --room office",
                       "--room hr add newbie -r office --groups sales"):
             self.assertEqual(self.typed(given),
-                             user.Words("add", "newbie", "office", joins=["sales"]), given)
+                             users.Words("add", "newbie", "office", joins=["sales"]), given)
         self.assertEqual(self.typed("add x --groups a,b").joins, ["a", "b"])
         for given in ("change x --add a,b --drop c", "change --drop c --add a --add b x"):
-            self.assertEqual(self.typed(given), user.Words(
+            self.assertEqual(self.typed(given), users.Words(
                 "change", "x", "office", joins=["a", "b"], leaves=["c"]), given)
         self.assertEqual(self.typed("remove -x --to alice --room hr"),
-                         user.Words("remove", "-x", "hr", heir="alice"))
-        self.assertEqual(self.typed("add x --random --first --groups a"), user.Words(
+                         users.Words("remove", "-x", "hr", heir="alice"))
+        self.assertEqual(self.typed("add x --random --first --groups a"), users.Words(
             "add", "x", "office", joins=["a"], is_first=True, is_random=True))
         self.assertEqual(self.typed("add --file f -r hr"),
-                         user.Words("add", "", "hr", file="f"))
+                         users.Words("add", "", "hr", file="f"))
 
     def test_what_is_refused(self) -> None:
         for bad in ("", "add", "remove", "add a b", "add --groups", "add a --groups", "list a",
@@ -341,7 +345,7 @@ class Words(unittest.TestCase):
         with tempfile.NamedTemporaryFile() as held:
             held.write(text.encode("utf-8"))
             held.flush()
-            return user.rows(held.name)
+            return users.rows(held.name)
 
     def test_files(self) -> None:
         wanted: dict[str, set[str]] = {"dana": {"sales", "staff"}, "eve": set()}

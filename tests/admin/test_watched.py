@@ -12,7 +12,8 @@ sys.path.insert(0, os.path.join(os.path.dirname(__file__), "..", "..", "admin"))
 
 from rooms_admin.host import locks, mail  # noqa: E402
 from rooms_admin.room import health, server, settings  # noqa: E402
-from rooms_admin.verbs import tell, watched  # noqa: E402
+from rooms_admin.check import watched  # noqa: E402
+from rooms_admin.verbs import tell  # noqa: E402
 
 
 class Answers(socketserver.StreamRequestHandler):
@@ -101,7 +102,7 @@ class Watched(unittest.TestCase):
                              group=0, backups="/b", unit="rooms@office", program="/bin/true")
         with tempfile.TemporaryDirectory() as run, \
                 unittest.mock.patch.object(locks, "RUN", run), \
-                unittest.mock.patch.object(watched.await_, "is_well", return_value=False), \
+                unittest.mock.patch.object(watched.awaited, "is_well", return_value=False), \
                 unittest.mock.patch.object(server, "state", return_value="inactive"):
             self.assertIn("systemctl status", watched.see_answer(room)[0][1])
             open(server.left_at_rest(room), "w").close()

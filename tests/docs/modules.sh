@@ -30,14 +30,15 @@ only 'a command is run' '\bsubprocess\b|\bos[.](exec|spawn|popen|posix_spawn|sys
 only 'a child is tied to its parent' '[.]prctl\(' host/processes
 only 'a lock is taken' '\bflock\(' host/locks
 only 'HTTP goes to a socket in the file system' '\(http[.]client[.]HTTPConnection\):' host/at_socket
-only 'the number of a run is read' '"number \(|DATED = ' room/backups
-only 'a file of passwords is named' '[.]htpasswd' room/passwords
-only 'which hashes may be tried is said' 'apr1|[$]2|/A-Za-z0-9\]' room/passwords
-only 'what can be a password is said' 'normalize\("NFC", password|LONGEST = 72' room/password_rules
-only 'the texts of a backup are named' '[/"-](records|review)[.]csv"|"lists[.]txt"' room/texts
-only "members' rows are written and read" 'group,user' room/members
-only 'the members of a room are changed' '\bmembers[.]change\(' room/known
-only 'what was known of them is kept' 'members[.]csv' room/known
+only 'the number of a run is read' '"number \(|DATED = ' backup/backups
+only 'a file of passwords is named' '[.]htpasswd' passwords/passwords
+only 'which hashes may be tried is said' 'apr1|[$]2|/A-Za-z0-9\]' passwords/passwords
+only 'what can be a password is said' 'normalize\("NFC", password|LONGEST = 72' \
+  passwords/password_rules
+only 'the texts of a backup are named' '[/"-](records|review)[.]csv"|"lists[.]txt"' backup/texts
+only "members' rows are written and read" 'group,user' people/members
+only 'the members of a room are changed' '\bmembers[.]change\(' people/known
+only 'what was known of them is kept' 'members[.]csv' people/known
 only 'a server is stopped' 'systemctl\("stop"' room/server
 only 'a server is started' 'systemctl\("start", [a-z.]*unit' room/server
 only 'it is said how long a room may take' '\bANSWER(_SECONDS)? = |_timeout [0-9]+s' room/waits
@@ -45,7 +46,7 @@ only 'a setting has its form' 'setting\("[A-Z_]+",|yes\("[A-Z_]+"\)' room/settin
 only 'what a terminal would obey is written in another way' \
   'ascii\(one\)\[' cli/report
 only 'what of a name is seen is said' 'isprintable\(\) (else|or|and)|table\("invisible' cli/signs
-only "a backup's name is read as a moment" '\bmktime\(|%Y-%m-%d[.]%H%M%S"' room/backups
+only "a backup's name is read as a moment" '\bmktime\(|%Y-%m-%d[.]%H%M%S"' backup/backups
 only "a room's name is that of its settings" 'removesuffix\("[.]conf"\)' room/settings
 only 'the unit of a nightly run is named' '"rooms-nightly(@\{|" *\+|"$)' room/settings
 only 'a line of settings is read' 'startswith\(f?"[A-Z_{}a-z]+=' room/settings
@@ -79,7 +80,7 @@ alone 'which day it is' 'toISOString\(\)[.]slice\(0, 10\)|getDate\(\)|T23:59' we
   'web/*/*.js'
 alone 'which signs are invisible' 'u3164|u2800|u200[bef]|u202[ae]' web/tables/invisible_signs.js \
   'web/*.js' 'web/*/*.js' "${of_admin[@]}" "${of_services[@]}"
-alone "an entry's text is read" '\[ADUL\]|[.]split\(b?":"' admin/rooms_admin/room/entries.py \
+alone "an entry's text is read" '\[ADUL\]|[.]split\(b?":"' admin/rooms_admin/lists/entries.py \
   "${of_admin[@]}"
 echo 'import subprocess' >two.py
 grep -cE '\bsubprocess\b' two.py >found

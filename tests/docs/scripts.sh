@@ -17,7 +17,7 @@ wide_lines() { # FILE ..
 }
 wide_lines "$here"/run "$here"/*/*.{sh,py,js,mjs} "$repo"/deploy/install \
   "$repo"/admin/rooms_admin/{,*/}*.py "$repo"/services/rooms_services/{,*/,*/*/}*.py \
-  "$repo"/web/{,*/}*.js "$repo"/web/*.{css,html} \
+  "$repo"/web/{,*/}*.{js,css} "$repo"/web/*.html \
   "$repo"/deploy/errors/* "$repo"/deploy/debian/p* "$repo"/admin/completion/* \
   "$repo"/tools/[a-z]* >found
 same 'no line is too wide' found /dev/null

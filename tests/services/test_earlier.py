@@ -13,7 +13,8 @@ from unittest import mock
 
 from fake_room import FakeRoom, Served
 from rooms_admin.host import locks
-from rooms_admin.room import backups, needs
+from rooms_admin.room import needs
+from rooms_admin.backup import backups
 from rooms_services import scgi
 from rooms_services.room.answers import Answer, Stop
 from rooms_services.room import turns

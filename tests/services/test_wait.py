@@ -10,8 +10,7 @@ from contextlib import suppress
 from unittest import mock
 
 from rooms_admin.host import locks
-from rooms_admin.room import server, waits, way
-from rooms_admin.verbs import await_
+from rooms_admin.room import awaited, server, waits, way
 from rooms_services import listening as services, wait
 
 ASKED = b"PUT /doc/f HTTP/1.1\r\nContent-Length: 1048576\r\n\r\n" + b"x" * 1_048_576
@@ -209,7 +208,7 @@ class Waiting(Over):
         if mark:
             open(place, "w").close()
         with mock.patch.object(server, "systemctl", systemctl):
-            await_._leave("office")
+            awaited.leave("office")
         if mark:
             os.unlink(place)
         return [words for words in asked if words[0] == "stop"]

@@ -4,12 +4,12 @@ import datetime
 import json
 import sys
 
-from rooms_admin.room import dump
-from rooms_admin.room.end_dates import ending
-from rooms_admin.verbs import until
+from rooms_admin.lists import dump
+from rooms_admin.people import ended
+from rooms_admin.lists.end_dates import ending
 
 
-class Night(until.Run):
+class Night(ended.Run):
     """On one day, with one list."""
 
     def __init__(self, day: str) -> None:

@@ -1,1 +1,1 @@
-"""One room: its settings, its server, its backups."""
+"""One room: its settings, its server, and how much it has in use."""

@@ -1,12 +1,11 @@
 """What can be wrong with a room that is served: each look gives a text, which is empty if all is
 well."""
 import http.client
-import os
 import time
 from collections.abc import Callable
 
 from ..host import waiting
-from . import http_client, limit, machine, program, server
+from . import http_client, limit, program, server
 from ..cli.report import Stop
 from .settings import Room
 from .size import NoRoom, Used
@@ -75,15 +74,3 @@ def disk(room: Room) -> str:
         return ""
     return (f"the disk of {room.file} takes no change, which needs {program.CHANGE >> 20} MB: "
             f"{why}; docs/messages.md, A full disk")
-
-
-def certificate(room: Room) -> tuple[str, bool]:
-    """What is to be told of the site's certificate, which the run of office alone does; and whether
-    that is a failure by now."""
-    if room.unit != "rooms@office" or os.geteuid() != 0:
-        return "", False
-    for file in machine.site_certificates():
-        level, text = machine.see_certificate(file)
-        if level:
-            return text, level == 2
-    return "", False

@@ -4,7 +4,8 @@ import glob
 import re
 
 from ..cli.report import Stop
-from . import machine, needs, settings
+from ..host import root
+from . import needs, settings
 from .server import systemctl
 from .settings import Room
 
@@ -77,7 +78,7 @@ def _count() -> int:
 def _has(what: str) -> int:
     """Of memory or swap; 0 where the machine doesn't say."""
     try:
-        with open(f"{machine.ROOT}/proc/meminfo", encoding="ascii") as source:
+        with open(f"{root.ROOT}/proc/meminfo", encoding="ascii") as source:
             found = re.search(rf"^{what}: +(\d+) kB$", source.read(), re.MULTILINE | re.ASCII)
     except OSError:
         return 0

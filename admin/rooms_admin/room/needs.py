@@ -5,11 +5,10 @@ import os
 import re
 from dataclasses import dataclass
 
-from ..host import safe
-from . import machine
+from ..host import root, safe
 
 # Root's, and read by others: numbers say nothing of anybody.
-FOLDER = f"{machine.ROOT}/var/lib/rooms-need"
+FOLDER = f"{root.ROOT}/var/lib/rooms-need"
 # More nights than are kept.
 _MOST = 1000
 # What a start needs beside what is in use: pages that a server keeps, and the program itself.

@@ -1,1 +1,1 @@
-"""nginx's site, and who signs in there."""
+"""nginx's site and Apache's, made of all settings; rooms of it, and its certificates."""

@@ -8,11 +8,11 @@ from contextlib import ExitStack
 from dataclasses import dataclass
 from grp import getgrnam
 
-from ..cli.report import Stop
 from ..host import changes, safe
+from ..passwords import passwords
+from ..cli.report import Stop
 from ..host.changes import Changes
 from ..host.commands import printed
-from ..room import passwords
 from ..room.settings import Place
 from .template import Site
 

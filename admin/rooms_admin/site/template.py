@@ -7,7 +7,8 @@ import re
 from dataclasses import dataclass
 
 from ..host import commands, safe
-from ..room import names, passwords, settings, waits
+from ..room import names, settings, waits
+from ..passwords import passwords
 from ..cli.report import Refused, say
 from ..room.settings import Front, Place
 

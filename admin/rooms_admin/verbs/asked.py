@@ -2,9 +2,10 @@
 import argparse
 
 from ..cli import words
-from ..room import backups, names, settings
-from ..room.http_client import argument
+from ..room import names, settings
+from ..backup import backups
 from ..cli.report import Refused
+from ..room.http_client import argument
 from ..room.settings import Room
 
 PATH = "a folder or a document of the room"

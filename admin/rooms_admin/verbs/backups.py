@@ -12,7 +12,9 @@ from typing import Any
 
 from ..cli import report, words
 from ..host import safe, waiting
-from ..room import backups, dump, server, settings, texts
+from ..room import server, settings
+from ..backup import backups, texts
+from ..lists import dump
 from . import asked
 from ..cli.report import Stop, say
 

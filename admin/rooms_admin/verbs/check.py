@@ -8,9 +8,9 @@ import glob
 
 from ..cli import report, words
 from ..room import settings
-from . import watched
+from ..check import watched
 from ..cli.report import Refused
-from .watched import CRITICAL, OK, WARNING, Finding
+from ..check.watched import CRITICAL, OK, WARNING, Finding
 
 STATUS = "0 all is well, 1 there is a warning, 2 something is critical"
 _WORDS = {OK: "OK", WARNING: "WARNING", CRITICAL: "CRITICAL"}

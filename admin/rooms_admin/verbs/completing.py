@@ -6,11 +6,14 @@ import os
 from collections.abc import Callable
 
 from ..cli import manual
+from ..host import waiting
+from ..room import names, settings
+from ..passwords import passwords
+from ..backup import backups
+from ..people import known
 from ..cli.report import Stop
 from ..cli.table import OLD
-from ..host import waiting
-from ..room import backups, known, names, passwords, settings
-from ..room.dump import Pair
+from ..lists.dump import Pair
 
 _PATIENCE = 2.0
 # Which names stand behind an option, of whichever verb.

@@ -11,78 +11,13 @@ prints a list of objects with the names 'room', 'used', 'limit' and 'full': byte
 where there is none, and the status is 1 if one of several rooms is full."""
 import argparse
 import os
-import stat
 import sys
-import time
 from contextlib import ExitStack
 
 from ..cli import report, words
 from ..host import locks
-from ..room import limit as limits, needs, settings
-from ..cli.report import Interrupted, Refused, Stop, say
-from ..room.size import NoRoom, Reader
-
-FOLDER = os.path.join(locks.RUN, "rooms-full")
-
-
-class Watch:
-    def __init__(self, room: settings.Room) -> None:
-        self.room = room
-        self.known = needs.stamp(room.name)
-        self.limit = limits.of(room)
-        self.used = Reader(room)
-        self.lost = False
-        self.flag = os.path.join(FOLDER, room.flag)
-        self.next = 0.0
-
-    def look(self) -> None:
-        """A night may have found out what a start needs."""
-        if (now := needs.stamp(self.room.name)) != self.known:
-            self.known, self.limit = now, limits.of(self.room)
-        if self.limit is None:
-            _remove(self.flag)
-            self.next = time.monotonic() + 3600
-            return
-        most = self.limit << 20
-        self.next = time.monotonic() + 1
-        try:
-            used = self.used.look()
-        except NoRoom:
-            if not self.lost:
-                say(f"{self.room.file} can't be read, and nothing is changed meanwhile")
-            self.lost = True
-            return
-        if self.lost:
-            say(f"{self.room.file} can be read again")
-        self.lost = False
-        if used > most and _put(self.flag):
-            say(f"the room is full: {used >> 20} MB are in use, and LIMIT is {self.limit}; nginx "
-                "refuses what adds to it")
-        elif used * 100 < most * 95 and _remove(self.flag):
-            say(f"the room isn't full any more: {used >> 20} MB of {self.limit} are in use")
-        if used * 2 < most:
-            self.next += 4
-
-
-def _put(place: str) -> bool:
-    """Whether the flag wasn't there. The folder is the servers' user's, who may run something else
-    than a server: what lies there in its place goes, and no link is followed."""
-    try:
-        if stat.S_ISREG(os.lstat(place).st_mode):
-            return False
-        os.unlink(place)
-    except FileNotFoundError:
-        pass
-    os.close(os.open(place, os.O_CREAT | os.O_EXCL | os.O_WRONLY | os.O_NOFOLLOW, 0o644))
-    return True
-
-
-def _remove(place: str) -> bool:
-    try:
-        os.unlink(place)
-        return True
-    except FileNotFoundError:
-        return False
+from ..room import fullness, settings
+from ..cli.report import Refused
 
 
 def arguments(parser: words.Parser) -> None:
@@ -91,25 +26,16 @@ def arguments(parser: words.Parser) -> None:
     words.rows(parser)
 
 
-def _look(room: settings.Room) -> tuple[int, int | None]:
-    """How many bytes are in use, and how many may be."""
-    limit = limits.of(room)
-    try:
-        return Reader(room).look(), None if limit is None else limit << 20
-    except NoRoom:
-        raise Refused(f"{room.file} can't be read") from None
-
-
 def _tell_one(rooms: list[settings.Room]) -> int:
     if len(rooms) != 1:
         raise Refused("bad arguments: --look looks at one room, --json at several")
-    used, limit = _look(rooms[0])
+    used, limit = fullness.look(rooms[0])
     print(f"{used >> 20} MB of {'any number' if limit is None else limit >> 20} are in use")
     return 0 if limit is None or used <= limit else 1
 
 
 def _tell_rows(rooms: list[settings.Room]) -> int:
-    seen = [(room.name, *_look(room)) for room in rooms]
+    seen = [(room.name, *fullness.look(room)) for room in rooms]
     rows = [{"room": name, "used": used, "limit": limit,
              "full": limit is not None and used > limit} for name, used, limit in seen]
     report.put_rows(rows)
@@ -126,35 +52,11 @@ def run(given: argparse.Namespace) -> int:
         raise Refused("bad arguments: without --look this goes on until somebody ends it, which is "
                       "what the unit of a room needs: rooms-admin full --look")
     os.umask(0o022)
-    os.makedirs(FOLDER, exist_ok=True)
+    os.makedirs(fullness.FOLDER, exist_ok=True)
     # The unit has a user of its own, who doesn't get to where root's locks are.
-    within = locks.FOLDER if os.geteuid() == 0 else f"{FOLDER}/locks"
+    within = locks.FOLDER if os.geteuid() == 0 else f"{fullness.FOLDER}/locks"
     with ExitStack() as owned:
         for room in rooms:
             owned.enter_context(locks.lock(f"full.{room.flag}", 2, within))
-        status = _watch(rooms)
+        status = fullness.watch(rooms)
     return status
-
-
-def _watch(rooms: list[settings.Room]) -> int:
-    """It has their locks, so from here on their flags are its own, also those of before."""
-    watches: list[Watch] = []
-    try:
-        for room in rooms:
-            watches.append(Watch(room))
-        for watch in watches:
-            if watch.limit is None:
-                say(f"the room has no limit: LIMIT in {watch.room.conf} is "
-                    + (watch.room.limit or f"empty, and {watch.room.unit} has no MemoryMax"))
-        while True:
-            for watch in watches:
-                if time.monotonic() >= watch.next:
-                    watch.look()
-            time.sleep(max(0.0, min(watch.next for watch in watches) - time.monotonic()))
-    except Interrupted:
-        report.ignore_signals()
-        for watch in watches:
-            _remove(watch.flag)
-        return 0
-    except OSError as fault:
-        raise Stop(f"{fault.filename}: {fault.strerror}") from fault

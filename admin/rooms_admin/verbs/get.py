@@ -4,9 +4,10 @@ import argparse
 import sys
 
 from ..cli import words
-from ..room import backups, names, private_server, program, settings
-from ..room.http_client import argument
+from ..room import names, private_server, program, settings
+from ..backup import backups
 from ..cli.report import Refused, Stop
+from ..room.http_client import argument
 
 
 def arguments(parser: words.Parser) -> None:

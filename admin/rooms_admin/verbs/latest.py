@@ -4,7 +4,8 @@ import argparse
 import os
 
 from ..cli import words
-from ..room import backups, settings
+from ..room import settings
+from ..backup import backups
 from ..cli.report import Refused
 
 

@@ -11,12 +11,13 @@ import os
 import sys
 
 from ..cli import words
-from ..cli.report import Refused, Stop
-from ..room import dump, joining, look, members, names, naming, private_server, program, server
-from ..room import settings
-from ..room.entries import is_inherited
-from ..room.settings import Room
+from ..room import names, private_server, program, server, settings
+from ..lists import dump, naming
+from ..people import joining, look, members
 from . import asked
+from ..cli.report import Refused, Stop
+from ..room.settings import Room
+from ..lists.entries import is_inherited
 
 _MOST = 1 << 20
 

@@ -15,10 +15,11 @@ import argparse
 from collections.abc import Iterable, Iterator
 
 from ..cli import report, words
-from ..room import dump, entries, naming, texts
-from ..room.dump import LISTS, Object, Pair, as_text
+from ..backup import texts
+from ..lists import dump, entries, naming
 from . import asked
 from ..cli.report import Refused, say
+from ..lists.dump import LISTS, Object, Pair, as_text
 
 Rows = Iterable[Object | Pair]
 

@@ -10,10 +10,11 @@ import argparse
 import os
 
 from ..cli import alike, report, words
+from ..room import published, settings
+from ..passwords import passwords
+from ..people import joining, look, members, offered
 from ..cli.report import Refused
-from ..room import joining, look, members, passwords, published, settings
 from ..room.settings import Room
-from . import people
 
 # More of them is a file that was cut off, rather than what somebody wants.
 MOST = 10
@@ -54,7 +55,7 @@ def _need_users(room: Room, change: joining.Change) -> None:
     if room.passwords != "file":
         return
     there = {user for _, user in change.before}.union(
-        *map(people.with_password, passwords.password_files(published.name_of(room))))
+        *map(offered.with_password, passwords.password_files(published.name_of(room))))
     for user in sorted({user for _, user in change.joins} - there):
         raise Refused(f"no user: {user} has no password and is in no group, as whoever has left; "
                       f"--new takes new ones{alike.meant(user, there)}")
@@ -81,5 +82,5 @@ def run(given: argparse.Namespace) -> int:
         if not given.dry_run:
             after = joining.make(room, change)
             print(joining.counted(after), flush=True)
-            people.show(room, after)
+            offered.show(room, after)
     return 0

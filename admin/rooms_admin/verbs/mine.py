@@ -1,74 +1,14 @@
 """What each user was given further down: a file for each, from last night's review. nginx shows the
 caller's own one as /mine, and that of '*' to whoever has no row in the review."""
 import argparse
-import json
 import os
-from collections.abc import Iterable
-from dataclasses import dataclass, field
 
 from ..cli import words
-from ..host import locks, safe
-from ..room import backups, published, review, settings, texts
+from ..host import locks
+from ..room import published, settings
+from ..backup import backups, texts
+from ..people import further_down
 from ..cli.report import Refused
-from ..room.review import ANONYMOUS, OTHERS, above
-from ..room.settings import Room
-
-NAME = "mine"
-
-
-@dataclass
-class One:
-    """A user, with the rights at each folder that has a row of this user's."""
-    at: dict[str, str] = field(default_factory=dict)
-    places: list[dict[str, str]] = field(default_factory=list)
-
-    def rights(self, path: str) -> str:
-        """Whoever has no row at a path has what their row at the nearest folder above says."""
-        while path not in self.at and path != "/":
-            path = above(path)
-        return self.at.get(path, "")
-
-
-def places(lines: Iterable[str]) -> tuple[dict[str, One], list[str]]:
-    """By user what can be used and isn't seen from the folder above, and who may change the list of
-    the top."""
-    found: dict[str, One] = {}
-    managers = []
-    for row in review.rows(lines):
-        if row.user == ANONYMOUS:
-            continue
-        one = found.setdefault(row.user, One())
-        if row.kind == "folder":
-            one.at[row.path] = row.rights
-        if row.path == "/":
-            if "C" in row.rights and row.user != OTHERS:
-                managers.append(row.user)
-        elif set(row.rights) & set("rwa") and "r" not in one.rights(above(row.path)):
-            one.places.append({"path": row.path, "kind": row.kind, "rights": row.rights})
-    return found, managers
-
-
-def write(room: Room, lines: Iterable[str], at: float) -> None:
-    """The files of a room whose review was made at that moment."""
-    found, managers = places(lines)
-    # Who asked not to show names shows none here.
-    shown = [] if room.people == "no" else sorted(managers)
-    files = {}
-    for user, one in {OTHERS: One(), **found}.items():
-        text = json.dumps({"made": published.moment(at), "managers": shown, "places": one.places},
-                          separators=(",", ":"))
-        files[f"{user}.json"] = text.encode() + b"\n"
-    published.put_folder(room, NAME, files)
-
-
-def nightly(room: Room, path: str) -> list[str]:
-    """From the review that the nightly run has written beside its backup."""
-    if not published.has_name(room):
-        return []
-    with safe.own_file(path) as source:
-        at = os.fstat(source.fileno()).st_mtime
-        write(room, texts.of_csv(source), at)
-    return []
 
 
 def arguments(parser: words.Parser) -> None:
@@ -87,5 +27,5 @@ def run(given: argparse.Namespace) -> int:
     beside = os.path.join(folder, texts.REVIEW)
     at = os.stat(beside if os.path.exists(beside) else last).st_mtime
     with locks.lock(room.unit, 60), texts.beside(room, folder, texts.REVIEW) as source:
-        write(room, texts.of_csv(source), at)
+        further_down.write(room, texts.of_csv(source), at)
     return 0

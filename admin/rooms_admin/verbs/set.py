@@ -5,11 +5,11 @@ import argparse
 import os
 
 from ..cli import alike, words
-from ..cli.report import Refused
 from ..host import locks
 from ..room import settings
-from ..site import template, values
+from ..site import setting_up, template, values
 from . import setup
+from ..cli.report import Refused
 
 # Who reads what only when it starts.
 _STARTED = {"FILE": "rooms", "PROGRAM": "rooms", "DRIVE": "rooms-door", "DATES": "rooms-door",
@@ -65,7 +65,7 @@ def _tell(path: str, changed: set[str], kind: type) -> None:
 
 
 def run(given: argparse.Namespace) -> int:
-    made = setup.look_first(given.destdir, given.dry_run)
+    made = setting_up.look_first(given.destdir, given.dry_run)
     path = _file(given, made.root)
     kind = settings.kind_of(path)
     with locks.machine(made.root, made.dry):

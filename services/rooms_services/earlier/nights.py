@@ -2,8 +2,9 @@
 import os
 from dataclasses import dataclass
 
+from rooms_admin.room import names, needs, settings
+from rooms_admin.backup import backups
 from rooms_admin.cli.report import Refused
-from rooms_admin.room import backups, names, needs, settings
 
 
 @dataclass

@@ -8,9 +8,10 @@ import os
 import time
 
 from rooms_admin.cli import report
-from rooms_admin.cli.report import say
 from rooms_admin.host import commands, safe
-from rooms_admin.room import names, password_rules, passwords
+from rooms_admin.room import names
+from rooms_admin.passwords import password_rules, passwords
+from rooms_admin.cli.report import say
 
 from ..room.answers import Answer, Stop
 from ..scgi import asked, not_understood, written

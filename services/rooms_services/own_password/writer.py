@@ -11,9 +11,10 @@ import hashlib
 import os
 import re
 
-from rooms_admin.cli.report import Refused, Stop, say
 from rooms_admin.host import safe
-from rooms_admin.room import names, passwords, published
+from rooms_admin.room import names, published
+from rooms_admin.passwords import passwords
+from rooms_admin.cli.report import Refused, Stop, say
 
 LONGEST, LINES = 400, 2
 # How long root's own change may take, which holds the folder for some milliseconds.

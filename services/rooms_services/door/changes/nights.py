@@ -1,4 +1,4 @@
-"""What root tells of a room, in files that nobody else writes (admin/rooms_admin/room/dates.py):
+"""What root tells of a room, in files that nobody else writes (admin/rooms_admin/backup/dates.py):
 what the nightly copy has, by which changes are found that no line told of; whose names are
 forgotten; what root has changed; that a backup was put in the room's place.
 

@@ -1,0 +1,1 @@
+"""Copies of a room: each night's, each hour's, another machine's; and one put back."""

@@ -1,0 +1,159 @@
+"""When documents of a room changed: the door beside it keeps that (docs/door.md), by lines about
+each change. What no line tells of, root does, in files that nobody else writes and that the door
+reads: root puts nothing into a folder of the door's."""
+import contextlib
+import json
+import os
+import stat
+import sys
+import time
+
+from ..host import locks, safe
+from ..room import program
+from . import backups
+from ..cli.report import Interrupted, Stop, say
+from ..room.published import ROOT
+from ..room.settings import Room
+
+# Where each room's door has a folder of its own, and what is told to all of them. Both are root's.
+CHANGES, TOLD = "/var/lib/rooms-changes", "/var/lib/rooms-told"
+FOLDER = ROOT + TOLD
+# What a door hasn't taken in a month it needn't: it begins with nothing.
+_MONTH = 31 * 86_400_000
+_LIST = os.path.join(os.path.dirname(os.path.realpath(__file__)), "objects_of_copy.py")
+
+
+def _reader(room: Room) -> int | None:
+    """The user of the room's door, if one has kept dates."""
+    try:
+        seen = os.lstat(f"{ROOT}{CHANGES}/{room.name}")
+    except OSError:
+        return None
+    return seen.st_uid if room.dates and stat.S_ISDIR(seen.st_mode) else None
+
+
+def _to(reader: int) -> int:
+    """Only root gives a file away."""
+    return reader if os.geteuid() == 0 else -1
+
+
+def files(name: str) -> list[str]:
+    """Of a room."""
+    return [f"{TOLD}/{name}.{end}" for end in ("night", "told", "words")]
+
+
+def now() -> int:
+    return int(time.time() * 1000)
+
+
+def _words(place: str) -> list[dict[str, object]]:
+    try:
+        with open(place, encoding="utf-8") as source:
+            return [json.loads(line) for line in source]
+    except (FileNotFoundError, ValueError):
+        return []
+
+
+def tell(room: Room, what: str, value: object) -> None:
+    """`forget` has the name of a user, `changed` the path of what root has changed, and `restored`
+    the moment of the backup that is in the room's place now, or 0 if nobody knows it. What was done
+    is done: whoever did it isn't held up by dates."""
+    reader = _reader(room)
+    if reader is None:
+        return
+    try:
+        _add_word(room, reader, what, value)
+    except Interrupted:
+        raise
+    except (OSError, Stop) as fault:
+        say(f"the door of {room.name} isn't told what dates need: {fault}")
+
+
+def _add_word(room: Room, reader: int, what: str, value: object) -> None:
+    """What was given to the door isn't opened again, since its owner could hold whoever does."""
+    own = f"{FOLDER}/{room.name}.words"
+    with locks.lock(f"{room.unit}.told", 60):
+        moment = now()
+        kept = [one for one in _words(own) if int(str(one["at"])) > moment - _MONTH]
+        number = max([time.time_ns(), *(int(str(one["number"])) + 1 for one in kept)])
+        kept.append({"number": number, "at": moment, what: value})
+        data = "".join(f"{json.dumps(one)}\n" for one in kept).encode()
+        safe.put_file(f"{FOLDER}/{room.name}.told", data, 0o400, owner=_to(reader))
+        safe.put_file(own, data, 0o600)
+
+
+def tell_changed(room: Room, path: bytes) -> None:
+    """What is at and below that path, which no line tells of."""
+    tell(room, "changed", path.decode("utf-8", "surrogateescape").strip("/"))
+
+
+def _write_list(room: Room, reader: int, copied: str, at: int, megabytes: int) -> None:
+    _remove_fresh(room)
+    with safe.opened(os.open(_fresh(room), os.O_RDWR | os.O_CREAT | os.O_EXCL | os.O_CLOEXEC,
+                             0o600)) as into:
+        status, _, said = program.helper_on_copy(
+            room, copied, [sys.executable, "-IB", _LIST], [str(at)], megabytes, into)
+        if status != 0:
+            raise OSError(f"status {status}: {said}")
+        os.fchown(into, _to(reader), -1)
+        os.fchmod(into, 0o400)
+        os.fsync(into)
+
+
+def _fresh(room: Room) -> str:
+    return f"{FOLDER}/{room.name}.new"
+
+
+def _remove_fresh(room: Room) -> None:
+    with contextlib.suppress(OSError):
+        os.unlink(_fresh(room))
+
+
+def tell_night(room: Room, copied: str, at: int, megabytes: int) -> str:
+    """What a private copy has, of which all was so at that moment. Returns what hindered that."""
+    reader = _reader(room)
+    if reader is None:
+        return ""
+    try:
+        _write_list(room, reader, copied, at, megabytes)
+        os.rename(_fresh(room), f"{FOLDER}/{room.name}.night")
+        return ""
+    except OSError as fault:
+        return f"the dates of {room.name} lack this night: {fault.strerror or fault}"
+    finally:
+        _remove_fresh(room)
+
+
+class Restored:
+    """The dates of what a backup has stay, where the door knows that it is the same."""
+
+    def __init__(self, room: Room, backup: str) -> None:
+        self.room = room
+        self.has_list = False
+        # Before it all was as the backup has it, by the name that a nightly run gave it.
+        found = backups.moments(os.path.basename(backup))
+        is_of_night = os.path.exists(os.path.join(backup, backups.RUN))
+        self.at = min(found) * 1000 if found and is_of_night else 0
+
+    def look(self, copied: str) -> None:
+        """At a private copy, while the room is still the old one."""
+        reader = _reader(self.room)
+        if reader is None:
+            return
+        try:
+            _write_list(self.room, reader, copied, self.at or now(),
+                        program.enough(self.room, copied))
+            self.has_list = True
+        except OSError as fault:
+            say(f"the dates of {self.room.name} come back in the next night: "
+                f"{fault.strerror or fault}")
+
+    def tell(self) -> None:
+        """It is in the room's place."""
+        tell(self.room, "restored", self.at)
+        if self.has_list:
+            with contextlib.suppress(OSError):
+                os.rename(_fresh(self.room), f"{FOLDER}/{self.room.name}.night")
+
+    def end(self) -> None:
+        _remove_fresh(self.room)

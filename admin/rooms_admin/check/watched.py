@@ -1,0 +1,458 @@
+"""What `check` looks at: each look gives findings, which are levels and texts."""
+import base64
+import glob
+import http.client
+import os
+import pwd
+import re
+import secrets
+import shutil
+import socket
+import ssl
+import time
+from collections.abc import Callable
+
+from ..host import root, waiting
+from ..room import awaited, limit, needs, server, settings
+from ..backup import backups, growth, hours
+from ..site import apache, certificates, connections, template
+from ..cli.report import Refused, Stop
+from ..host.commands import printed
+from ..room.settings import Room
+from ..room.size import NoRoom, Used
+
+OK, WARNING, CRITICAL = 0, 1, 2
+Finding = tuple[int, str]
+HOUR = 3600
+# Seconds. Whoever a server or nginx is by now could answer so slowly that it never ends.
+PATIENCE = 150
+# Less than this is a full disk: twice the largest document, in the log and on its way.
+FULL = 16 << 20
+# What Debian's nginx.conf has, and docs/capacity.md counts on.
+CONNECTIONS = 768
+# The clocks of a disk and of the machine may differ by so much.
+AHEAD = 120
+# Full in fewer weeks than this: it takes some to get a larger machine.
+SOON = 8
+# Where rooms-nights.service may not look.
+UNSEEN = ("/dev", "/etc", "/home", "/proc", "/root", "/run", "/sys", "/tmp", "/var/lib", "/var/log",
+          "/var/mail", "/var/spool", "/var/tmp")
+# Only tests set another address of nginx.
+FRONT = os.environ.get("ROOMS_FRONT", "127.0.0.1")
+# What nginx says where it does its part: it asks for a password, or sends on to where it does.
+_ASKS = (200, 301, 302, 303, 307, 308, 401, 403, 429)
+_POLICY = "default-src 'none'; script-src 'self'; "
+_REALM = re.compile(r'Basic realm="rooms(-[a-z0-9-]+)?"', re.ASCII)
+
+
+def within(seconds: float, look: Callable[[], list[Finding]], what: str) -> list[Finding]:
+    """A disk that hangs holds whoever looks at it, so a process of its own does."""
+    def looked() -> list[Finding]:
+        try:
+            return look()
+        except Stop as stop:
+            return [(CRITICAL, str(stop))]
+    try:
+        found = waiting.answer(seconds, looked, what)
+    except waiting.Hangs as hangs:
+        return [(CRITICAL, str(hangs))]
+    if not isinstance(found, list):
+        return [(CRITICAL, f"{what} can't be looked at")]
+    return [(int(level), str(said)) for level, said in found]
+
+
+def see_owner(room: Room) -> list[Finding]:
+    """A file that was made as root: all seems well until its server wants to open it."""
+    if os.path.exists(room.file) and os.stat(room.file).st_uid != room.owner:
+        return [(CRITICAL, f"{room.file} isn't its server's, which can't open it: chown "
+                 f"--reference={room.folder} {room.file}*")]
+    return []
+
+
+def see_answer(room: Room) -> list[Finding]:
+    """By itself."""
+    if awaited.is_well("" if room.listens else room.port, room.listens):
+        return [(OK, "answers")]
+    state = server.state(room) or "no unit"
+    if state == "inactive" and os.path.exists(server.left_at_rest(room)):
+        return [(CRITICAL, f"{room.unit} was stopped while groups were changed or it was copied, "
+                 f"and that was cut off: rooms-admin groups --after --room {room.name}")]
+    return [(CRITICAL, f"{room.unit} doesn't answer ({state}): systemctl status {room.unit}")]
+
+
+def see_door(room: Room) -> list[Finding]:
+    """The web interface needs it. It comes and goes with the room's own unit."""
+    unit = f"rooms-door@{room.name}"
+    if room.unit != f"rooms@{room.name}" or server.state(room) != "active" or printed(
+            ["systemctl", "is-active", unit]) == "active":
+        return []
+    return [(CRITICAL, f"its door doesn't run: systemctl restart {unit}")]
+
+
+def _place(room: Room) -> tuple[str, str] | None:
+    """The host and the path at which nginx shows a room, if it does. Beside other sites its names
+    tell ours, so it is asked by one."""
+    name = room.name
+    if room.behind or room.unit != f"rooms@{name}":
+        return None
+    if room.host:
+        return room.host, "/"
+    file = root.ROOT + template.SETTINGS
+    host = settings.front(file).hosts[0] if os.path.exists(file) else ""
+    return host, "/" if name == "office" else f"/{name}/"
+
+
+class _Named(http.client.HTTPSConnection):
+    """This machine, by the name of a site. Its certificate is looked at by itself."""
+
+    def __init__(self, host: str) -> None:
+        super().__init__(FRONT, timeout=20)
+        self.named = host
+
+    def connect(self) -> None:
+        context = ssl.create_default_context()
+        context.check_hostname = False
+        context.verify_mode = ssl.CERT_NONE
+        plain = socket.create_connection((self.host, self.port), timeout=20)
+        self.sock = context.wrap_socket(plain, server_hostname=self.named.strip("[]") or None)
+
+
+def _is_ours(got: http.client.HTTPResponse) -> bool:
+    """Our site has this policy on each page of its own, and asks for passwords of rooms."""
+    return (got.headers.get("Content-Security-Policy", "").startswith(_POLICY)
+            or _REALM.match(got.headers.get("WWW-Authenticate", "")) is not None)
+
+
+def see_front(room: Room) -> list[Finding]:
+    """Through nginx, as far as one gets without a password: it listens, knows the room's place, and
+    asks for a password. Beyond that its files have to say where the room is."""
+    place = _place(room)
+    if place is None:
+        return []
+    if not _passes_on(room):
+        return [(CRITICAL, "nginx passes nothing on to its socket")]
+    for asked in (http.client.HTTPConnection(FRONT, timeout=20), _Named(place[0])):
+        try:
+            asked.request("GET", place[1] + "can/?", headers={
+                "Connection": "close", **({"Host": place[0]} if place[0] else {})})
+            got = asked.getresponse()
+            got.read(1 << 16)
+            ours = _is_ours(got)
+            if got.status not in _ASKS:
+                return [(CRITICAL, f"nginx answers {got.status} for it")]
+            if ours:
+                return [(OK, "nginx answers")]
+            if got.status < 300 or got.status > 399:
+                break
+        except (OSError, http.client.HTTPException) as fault:
+            return [(CRITICAL, f"nginx doesn't answer: {fault}")]
+        finally:
+            asked.close()
+    return [(CRITICAL, f"another site of nginx's answers for {place[0]}: HOSTS in /etc/rooms/site "
+             "names those of the rooms; then rooms-admin setup")]
+
+
+def _passes_on(room: Room) -> bool:
+    where = re.escape(f"unix:/run/rooms/{room.name}/socket")
+    try:
+        with open(f"{root.ROOT}/etc/nginx/sites-enabled/rooms", encoding="utf-8",
+                  errors="replace") as source:
+            return re.search(rf"{where}\b", source.read(), re.ASCII) is not None
+    except OSError:
+        return False
+
+
+def see_disk(room: Room) -> list[Finding]:
+    """What the room's user gets of the room's disk, and how much of LIMIT is in use."""
+    found = [_space(room.folder, "the room's disk", server.size_of(room.file))]
+    try:
+        used, most, starts = Used().look(room.file), limit.of(room), limit.that_starts(room)
+    except NoRoom:
+        return [*found, (CRITICAL, f"{room.file} can't be read")]
+    except Stop as stop:
+        return [*found, (WARNING, str(stop))]
+    need = needs.last(room.name)
+    took = (f", and a start with the {need.used} MB of last night took {need.memory}"
+            if need is not None and need.is_more else "")
+    if starts is not None and starts < used >> 20 and (most is None or starts < most or took):
+        found.append((CRITICAL, f"with {used >> 20} MB in use {room.unit} may not start again: "
+                      f"its MemoryMax is enough for {starts} MB{took}"))
+    if missing := limit.lacks_swap(room, used >> 20):
+        found.append((WARNING, f"the nightly run needs {limit.needed(room, used >> 20)} MB beside "
+                      f"the server: {missing} MB of swap are missing"))
+    if most is None:
+        return [*found, (OK, f"{used >> 20} MB in use")]
+    level = (CRITICAL if used > most << 20 else
+             WARNING if used * 10 >= (most << 20) * 9 else OK)
+    return [*found, (level, f"{used >> 20} of {most} MB in use")]
+
+
+def see_pace(room: Room) -> list[Finding]:
+    """When the room is full, if it goes on growing as it did in the last month's backups."""
+    try:
+        used, most = Used().look(room.file), limit.of(room)
+    except (NoRoom, Stop):
+        return []
+    grows = growth.of_a_day(room, time.time()) if most else 0
+    if not most or grows <= 0 or used > most << 20:
+        return []
+    weeks = int(((most << 20) - used) / grows) // 7
+    when = f"in {weeks} weeks" if weeks > 1 else "within two weeks"
+    return [(WARNING, f"at this month's pace it is full {when}")] if weeks < SOON else []
+
+
+def _space(folder: str, what: str, wanted: int) -> Finding:
+    seen = os.statvfs(folder)
+    free = seen.f_bavail * seen.f_frsize
+    if seen.f_flag & os.ST_RDONLY:
+        return CRITICAL, f"{what} is read-only"
+    if free < FULL or (seen.f_files and not seen.f_favail):
+        return CRITICAL, f"{what} is full: {free >> 20} MB free"
+    if free < wanted:
+        return WARNING, f"{what} has {free >> 20} MB free, less than the room takes"
+    return OK, ""
+
+
+def see_backups(room: Room) -> list[Finding]:
+    """The last good backup, by when it was written. A clock that was set back leaves some in the
+    future, which look newer than any that comes."""
+    if not os.path.isdir(room.backups):
+        return [(CRITICAL, f"no folder of backups: {room.backups}")]
+    found = [_space(room.backups, "the disk of backups", server.size_of(room.file))]
+    seen = backups.look(room)
+    found += [(CRITICAL, one) for one in seen.wrong]
+    times = []
+    for backup in seen.backups:
+        try:
+            at = os.stat(os.path.join(backup.place, room.base)).st_mtime
+            times.append((max(at, backups.made(backup) or 0), backup.name))
+        except (OSError, ValueError):
+            continue
+    now = time.time()
+    ahead = [name for at, name in times if at > now + AHEAD]
+    if ahead:
+        found.append((WARNING, f"the backup {max(ahead)} is dated in the future: was the clock set "
+                      "back?"))
+    good = [at for at, name in times if name not in ahead]
+    if not good:
+        return [*found, _none_yet(room, now)]
+    age = int(now - max(good)) // HOUR
+    level = CRITICAL if age >= 50 else WARNING if age >= 26 else OK
+    return [*found, (level, f"last good backup {age} h ago")]
+
+
+def see_hours(room: Room) -> list[Finding]:
+    """Hourly copies: whether they come, and whether the disk has space for all that may be."""
+    if not room.hours or not os.path.isdir(room.backups):
+        return []
+    seen = hours.found(room)
+    said = [(CRITICAL, one) for one in seen.wrong]
+    disk = os.statvfs(room.backups)
+    free, wanted = disk.f_bavail * disk.f_frsize, hours.wants(room, seen.backups)
+    if free < wanted:
+        said.append((WARNING, f"{room.hours} hourly copies want {wanted >> 20} MB, and the disk of "
+                     f"backups has {free >> 20} MB free"))
+    timer = f"rooms-standby@{room.name}.timer"
+    if not seen.backups:
+        return [*said, (WARNING, f"no hourly copy: systemctl enable --now {timer}")]
+    last = seen.backups[-1]
+    age = hours.age(last, time.time())
+    if age < -AHEAD:
+        return [*said, (WARNING, f"the backup {last.name} is dated in the future: was the clock "
+                        "set back?")]
+    level = WARNING if age >= 3 * HOUR else OK
+    return [*said, (level, f"last hourly copy {max(0, int(age)) // HOUR} h ago")]
+
+
+def see_nights(room: Room) -> list[Finding]:
+    """Why users see no earlier night, where the settings let them see some."""
+    if room.earlier == "no":
+        return []
+    there = os.path.realpath(room.backups)
+    hidden = [one for one in UNSEEN if os.path.commonpath((one, there)) == one]
+    return [(OK, f"no earlier nights, since BACKUPS is below {hidden[0]}")] if hidden else []
+
+
+def see_namespaces(room: Room) -> list[Finding]:
+    """A hardened kernel may allow none, and then systemd starts no unit that wants one."""
+    try:
+        with open(f"{root.ROOT}/proc/sys/user/max_user_namespaces", encoding="ascii") as most:
+            if most.read().strip() != "0":
+                return []
+    except OSError:
+        return []
+    units = [room.unit, f"rooms-full@{room.name}",
+             f"rooms-door@{room.name}",
+             *(["rooms-earlier"] if room.shows_nights else [])]
+    want = [one for one in units if printed(
+        ["systemctl", "show", "-p", "PrivateUsers", "--value", one]) not in ("", "no")]
+    return [(CRITICAL, "this machine allows no namespaces of users, so these can't start: "
+             f"{' '.join(want)}: sysctl user.max_user_namespaces")] if want else []
+
+
+def _none_yet(room: Room, now: float) -> Finding:
+    said = printed(["stat", "-c", "%W", "--", room.file])
+    if said.isdigit() and now - int(said) < 26 * HOUR:
+        return WARNING, f"no backup yet: systemctl start {room.nightly}"
+    return CRITICAL, "no good backup"
+
+
+def see_groups(room: Room) -> list[Finding]:
+    """The last run that the timer began. A run that fails is a unit that has failed."""
+    timer = f"rooms-directory@{room.name}.timer"
+    if not os.path.lexists(f"{root.ROOT}/etc/systemd/system/timers.target.wants/{timer}"):
+        return []
+    try:
+        stamp = os.stat(f"{root.ROOT}/var/lib/systemd/timers/stamp-{timer}").st_mtime
+    except OSError:
+        return [(WARNING, f"{timer} has never run")]
+    age = int(time.time() - stamp) // HOUR
+    return [(WARNING if age >= 26 else OK, f"groups {age} h ago")]
+
+
+def see_timer(room: Room) -> list[Finding]:
+    timer = f"{room.nightly}.timer"
+    if printed(["systemctl", "is-active", timer]) == "active":
+        return []
+    return [(WARNING, f"no nightly run is due: systemctl enable --now {timer}")]
+
+
+def see_mail(room: Room) -> list[Finding]:
+    if not room.mail:
+        return []
+    if not shutil.which("mail"):
+        return [(WARNING, f"no mail program, so {room.mail} is told of nothing: apt-get install "
+                 "bsd-mailx")]
+    if _stays_here(room.mail):
+        return [(WARNING, f"mail to {room.mail} stays in a box of this machine, where nobody reads "
+                 f"it: echo '{room.mail}: YOU@OFFICE' >>/etc/aliases && newaliases")]
+    return []
+
+
+def _stays_here(name: str) -> bool:
+    """Whether a mail ends with root, or with an account that is nobody's, and goes no further."""
+    aliases: dict[str, str] = {}
+    try:
+        with open(f"{root.ROOT}/etc/aliases", encoding="utf-8", errors="replace") as source:
+            for line in source:
+                word, colon, to = line.partition(":")
+                if colon and not line.startswith(("#", " ", "\t")):
+                    aliases[word.strip().strip('"').lower()] = to.strip()
+    except OSError:
+        pass
+    for _ in range(10):
+        name = aliases.get(name.lower(), "") or name
+        if not re.fullmatch(r"[a-z0-9._-]+", name, re.ASCII | re.IGNORECASE):
+            # An address elsewhere, a program, a file, several of them.
+            return False
+        if name.lower() not in aliases:
+            break
+    try:
+        user = pwd.getpwnam(name)
+    except KeyError:
+        return True
+    if os.path.exists(f"{root.ROOT}{user.pw_dir}/.forward"):
+        return False
+    return user.pw_uid < 1000
+
+
+def see_directory() -> list[Finding]:
+    """The Apache that asks the directory, by a name that nobody has: while that is down or hangs,
+    no password is right or wrong."""
+    folder = f"{root.ROOT}/etc/rooms"
+    if not any(settings.value(one, "PASSWORDS") == "directory"
+               for one in glob.glob(f"{glob.escape(folder)}/*.conf")):
+        return []
+    if not os.access(root.ROOT + template.KEY, os.R_OK) and os.geteuid() != 0:
+        return []
+    listens = re.search(r"^Listen 127\.0\.0\.1:(\d+)$", template.read(root.ROOT + apache.FILE),
+                        re.MULTILINE | re.ASCII)
+    key = re.search(r" Rooms-Key ([0-9a-f]+);", template.read(root.ROOT + template.KEY))
+    if listens is None or key is None:
+        return [(CRITICAL, "PASSWORDS=directory, and no directory: rooms-admin setup --directory")]
+    named = base64.b64encode(f"nobody-{secrets.token_hex(8)}:x".encode()).decode()
+    asked = http.client.HTTPConnection("127.0.0.1", int(listens[1]), timeout=20)
+    try:
+        asked.request("GET", "/password/rooms", headers={
+            "Connection": "close", "Rooms-Key": key[1], "Authorization": f"Basic {named}"})
+        status = asked.getresponse().status
+        said = "" if status == 401 else f"it answers {status}"
+    except (OSError, http.client.HTTPException) as fault:
+        said = str(fault)
+    finally:
+        asked.close()
+    return [(CRITICAL, f"the directory checks no password, and nobody can sign in: {said}; "
+             "journalctl -u rooms-passwords")] if said else [(OK, "")]
+
+
+def see_units() -> list[Finding]:
+    said = printed(["systemctl", "list-units", "--state=failed", "--plain", "--no-legend",
+                    "rooms*"])
+    failed = [line.split()[0] for line in said.splitlines() if line.split()]
+    return [(CRITICAL, f"failed: {' '.join(sorted(failed))}")] if failed else []
+
+
+def see_connections() -> list[Finding]:
+    """How many connections nginx holds for each of its processes, where it shows rooms; and whether
+    no address can take them all."""
+    nginx = f"{root.ROOT}/etc/nginx"
+    if not (os.path.lexists(f"{nginx}/sites-enabled/rooms")
+            and os.path.exists(f"{nginx}/nginx.conf")):
+        return []
+    found: list[Finding] = []
+    held = connections.of_process(root.ROOT)
+    if held < CONNECTIONS:
+        found.append((WARNING, f"nginx holds {held} connections for each of its processes, less "
+                      f"than the {CONNECTIONS} of Debian: worker_connections in "
+                      "/etc/nginx/nginx.conf"))
+    if os.path.exists(root.ROOT + connections.FILE) and printed(
+            ["systemctl", "is-active", connections.UNIT]) != "active":
+        found.append((WARNING, "one address can take all connections of nginx's, and keep others "
+                      f"out: systemctl restart {connections.UNIT.removesuffix('.service')}"))
+    return found or [(OK, "")]
+
+
+def see_tls() -> list[Finding]:
+    """A site that has none, unless somebody has said that it is meant so."""
+    file = root.ROOT + template.SETTINGS
+    if not (os.path.exists(file)
+            and os.path.lexists(f"{root.ROOT}/etc/nginx/sites-enabled/rooms")):
+        return []
+    try:
+        front = settings.front(file)
+    except Refused:
+        # That is told by the look at its certificate.
+        return []
+    if front.certificate or front.unencrypted:
+        return []
+    return [(WARNING, "passwords and documents travel unencrypted: rooms-admin setup --tls, or "
+             f"UNENCRYPTED=yes in {template.SETTINGS} if that is meant")]
+
+
+def see_certificates() -> list[Finding]:
+    """The site's, if it has one, and those by which machines know one another."""
+    site = root.ROOT + "/etc/rooms/site"
+    try:
+        if os.path.exists(site):
+            settings.front(site)
+    except Refused as stop:
+        return [(CRITICAL, str(stop))]
+    wanted = certificates.site_certificates()
+    folder = root.ROOT + "/etc/rooms/machines"
+    try:
+        wanted += [f"/etc/rooms/machines/{name}" for name in sorted(os.listdir(folder))
+                   if name.endswith(".pem")]
+    except OSError:
+        pass
+    return [certificates.see_certificate(file) for file in wanted]
+
+
+def of_room(conf: str) -> list[Finding]:
+    room = settings.room(conf)
+    looks = [see_owner, see_namespaces, see_answer, see_door, see_front, see_groups, see_timer,
+             see_mail]
+    return [*(found for look in looks
+              for found in within(PATIENCE, lambda: look(room), f"{room.unit} or nginx")),
+            *within(20, lambda: see_disk(room), f"{room.folder}"),
+            *(found for look in (see_backups, see_pace, see_hours, see_nights)
+              for found in within(20, lambda: look(room), f"{room.backups}"))]

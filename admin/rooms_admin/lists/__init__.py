@@ -1,0 +1,1 @@
+"""What lists, reviews and records of a room say, and whom they name."""

@@ -1,0 +1,223 @@
+"""What a machine has for its rooms beside them: settings, passwords, nginx's files, the
+certificate, what was added to units. A nightly run keeps it as machine.tar beside each backup."""
+import errno
+import hashlib
+import io
+import os
+import re
+import tarfile
+import time
+from collections.abc import Iterator
+from contextlib import suppress
+from dataclasses import dataclass, field
+
+from ..host import safe
+from ..room import settings
+from ..passwords import passwords
+from ..site import certificates
+from ..cli.report import Refused
+from ..host.commands import printed
+from ..host.root import ROOT
+
+OWN = re.compile(
+    rf"etc/rooms/.+|{passwords.KEPT[1:]}/{passwords.NAME}|{passwords.KEPT[1:]}/{passwords.FIRST}"
+    rf"|etc/nginx/({passwords.NAME}|sites-available/rooms(-tls)?"
+    r"|sites-enabled/rooms|snippets/rooms-[a-z]+\.conf|rooms\.d/[^/]+|conf\.d/rooms[^/]*\.conf)"
+    r"|etc/systemd/system/rooms[^/]*\.d/[^/]+\.conf|etc/letsencrypt/.+", re.ASCII | re.DOTALL)
+# Units that may be enabled again.
+ENABLED = re.compile(r"rooms[A-Za-z0-9:_.@-]*\.(service|socket|timer|path|target)", re.ASCII)
+# What an editor, dpkg, an install or a restore leaves beside them.
+LEFT = re.compile(r"(\.(old|new|swp|dpkg-[a-z]+|rooms-restore)|~)$", re.ASCII)
+
+
+def _lacks_site() -> list[str]:
+    site = ROOT + "/etc/rooms/site"
+    try:
+        if os.path.exists(site):
+            settings.lines(site)
+    except Refused as stop:
+        return [f"it lacks the site's certificate: {stop}"]
+    return []
+
+
+def is_own_link(name: str, target: str) -> bool:
+    """Links that are kept as links lead from ours to ours."""
+    if name == "etc/nginx/sites-enabled/rooms":
+        return re.fullmatch(r"(\.\.|/etc/nginx)/sites-available/rooms(-tls)?", target) is not None
+    if name.startswith("etc/nginx/conf.d/rooms"):
+        return re.fullmatch(r"(\.\.|/etc/nginx)/snippets/rooms-[a-z]+\.conf", target) is not None
+    # Where '..' stands behind a name, that may be another link, and the path isn't what it seems.
+    return (name.startswith("etc/letsencrypt/") and not target.startswith("/")
+            and ".." not in re.sub(r"^(\.\./)*", "", target).split("/")
+            and os.path.normpath(f"/{os.path.dirname(name)}/{target}").startswith(
+                "/etc/letsencrypt/"))
+
+
+def _names() -> Iterator[str]:
+    places = ["etc/rooms", "etc/nginx", "etc/systemd/system"]
+    # A certificate of certbot is renewed by what lies beside it.
+    if any(one.startswith("/etc/letsencrypt/") for one in certificates.certificates()):
+        places.append("etc/letsencrypt")
+    for place in places:
+        for at, folders, files in os.walk(f"{ROOT}/{place}"):
+            links = [one for one in folders if os.path.islink(os.path.join(at, one))]
+            for name in files + links:
+                yield os.path.relpath(os.path.join(at, name), f"{ROOT}/")
+    # The keeper may have made folders there, in one another without end: none is entered.
+    with suppress(FileNotFoundError):
+        yield from (f"{passwords.KEPT[1:]}/{name}" for name in os.listdir(ROOT + passwords.KEPT))
+
+
+def _packaged() -> set[str]:
+    """Files of the package that nobody has changed: they come with the package."""
+    found = set()
+    said = printed(["dpkg-query", f"--admindir={ROOT}/var/lib/dpkg", "-W", "-f=${Conffiles}\\n",
+                    "rooms"])
+    for line in said.splitlines():
+        words = line.split()
+        if len(words) >= 2:
+            try:
+                with open(ROOT + words[0], "rb") as source:
+                    if hashlib.md5(source.read()).hexdigest() == words[1]:
+                        found.add(words[0][1:])
+            except OSError:
+                pass
+    return found
+
+
+def _packages() -> str:
+    """Those that are installed."""
+    rows = printed(["dpkg-query", "-W", "-f=${db:Status-Status} package ${Package} ${Version}\\n",
+                    "rooms", "nginx", "apache2-bin", "apache2-utils", "openssl", "at", "certbot",
+                    "python3-ldap", "libapache2-mod-auth-gssapi", "libapache2-mod-auth-openidc"])
+    return "".join(row.removeprefix("installed ") + "\n" for row in rows.splitlines()
+                   if row.startswith("installed "))
+
+
+def _kept(words: list[str]) -> str:
+    """What a command prints, as whole lines."""
+    said = printed(words)
+    return f"{said}\n" if said else ""
+
+
+def _about(version: str) -> str:
+    text = (f"rooms {version}\nhost {os.uname().nodename}\n"
+            f"date {time.strftime('%FT%TZ', time.gmtime())}\n\n"
+            "What follows is to look at: no restore brings it back.\n")
+    text += _packages() + _kept(["ip", "-brief", "address"])
+    for line in printed(["atq"]).splitlines():
+        job = line.split("\t")[0]
+        text += f"at {line}\n" + "\n".join(printed(["at", "-c", job]).splitlines()[-2:]) + "\n"
+    return text + _kept(["grep", "-rs", "rooms", f"{ROOT}/var/spool/cron/crontabs",
+                         f"{ROOT}/etc/crontab", f"{ROOT}/etc/cron.d", f"{ROOT}/etc/cron.daily",
+                         f"{ROOT}/etc/cron.weekly"])
+
+
+def _enabled() -> list[str]:
+    return sorted({name for at, folders, names in os.walk(f"{ROOT}/etc/systemd/system")
+                   if at.endswith(".wants") for name in names + folders
+                   if ENABLED.fullmatch(name)})
+
+
+def save(target: str, version: str, added: list[str] | None = None,
+         more: list[str] | None = None) -> list[str]:
+    """Writes the tar, which was not there; what can't be read is told, and left out. What a restore
+    keeps of before has all files, of the package too, those that it will add by their names, and
+    `more` certificates."""
+    lacks = _lacks_site()
+    theirs = _Theirs()
+    wanted = sorted({*certificates.certificates(), *(more or [])})
+    with tarfile.open(target, "x", format=tarfile.GNU_FORMAT, errorlevel=2) as tar:
+        ours = {one for one in _names() if OWN.fullmatch(one) and not LEFT.search(one)}
+        if added is None:
+            ours -= _packaged()
+        ours |= {one[1:] for one in wanted if one[1:] not in (added or [])}
+        for name in sorted(ours, key=lambda name: (_is_of_no_room(name), name)):
+            if not name.isprintable():
+                lacks.append(f"it lacks {name!r}, whose name isn't plain text")
+                continue
+            try:
+                _add(tar, name, theirs)
+            except OSError as fault:
+                if fault.errno in (errno.ENOSPC, errno.EDQUOT, errno.EIO, errno.EFBIG):
+                    raise
+                if _is_theirs(name):
+                    theirs.left_out.append(name)
+                else:
+                    lacks.append(f"it lacks /{name}, which can't be read")
+        _add_text(tar, "machine/about", _about(version))
+        if added is not None:
+            _add_text(tar, "machine/added", "".join(one + "\n" for one in added))
+        _add_text(tar, "machine/certificates", "".join(one + "\n" for one in wanted))
+        _add_text(tar, "machine/enabled", "".join(one + "\n" for one in _enabled()))
+    with open(target, "rb") as written:
+        os.fsync(written.fileno())
+    if theirs.left_out:
+        lacks.append(f"it lacks /{theirs.left_out[0]} and {len(theirs.left_out) - 1} more, which "
+                     "can't be read or are far more than passwords are")
+    return lacks
+
+
+def _add_text(tar: tarfile.TarFile, name: str, text: str) -> None:
+    data = text.encode(errors="replace")
+    member = tarfile.TarInfo(name)
+    member.size = len(data)
+    tar.addfile(member, io.BytesIO(data))
+
+
+def _opened(place: str) -> int:
+    if not passwords.is_kept(place):
+        return os.open(place, os.O_RDONLY | os.O_CLOEXEC)
+    with safe.opened(safe.folder(os.path.dirname(place))) as within:
+        try:
+            return safe.file_below(within, os.path.basename(place))
+        except safe.NoFile as fault:
+            raise OSError(errno.ELOOP, str(fault)) from fault
+
+
+def _is_theirs(name: str) -> bool:
+    return os.path.dirname(name) == passwords.KEPT[1:]
+
+
+def _is_of_no_room(name: str) -> bool:
+    """A file of passwords of a room that was removed, or of none."""
+    if not _is_theirs(name):
+        return False
+    room = os.path.splitext(os.path.basename(name))[0].removeprefix("rooms").removeprefix("-")
+    return not any(os.path.exists(f"{ROOT}/etc/rooms/{room or 'office'}{end}")
+                   for end in (".conf", ".on"))
+
+
+@dataclass
+class _Theirs:
+    """Files of the keeper's, who could have made any: a tar that is brought back has an end."""
+    space: int = 16 << 20
+    left_out: list[str] = field(default_factory=list)
+
+    def read(self, number: int, name: str) -> bytes | None:
+        data = safe.read_at_most(number, max(0, self.space))
+        if len(data) > self.space:
+            self.left_out.append(name)
+            return None
+        # (each costs a head in the tar)
+        self.space -= len(data) + tarfile.BLOCKSIZE
+        return data
+
+
+def _add(tar: tarfile.TarFile, name: str, theirs: _Theirs) -> None:
+    """The content of a file, even if it is a link here that leads elsewhere, unless somebody else
+    than root could have put that there. All of it is read before anything of it is written, so that
+    the tar stays whole."""
+    place = f"{ROOT}/{name}"
+    member = tarfile.TarInfo(name)
+    if os.path.islink(place) and is_own_link(name, os.readlink(place)):
+        member.type, member.linkname, member.mode = tarfile.SYMTYPE, os.readlink(place), 0o777
+        tar.addfile(member)
+        return
+    with safe.opened(_opened(place)) as number, open(number, "rb", closefd=False) as source:
+        data = theirs.read(number, name) if _is_theirs(name) else source.read()
+        seen = os.fstat(number)
+    if data is None:
+        return
+    member.size, member.mode, member.mtime = len(data), seen.st_mode & 0o777, int(seen.st_mtime)
+    tar.addfile(member, io.BytesIO(data))

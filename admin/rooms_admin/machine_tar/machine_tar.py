@@ -1,0 +1,282 @@
+"""machine.tar, whoever has written it: what may be in it, and what of that runs nothing as root.
+All of it is looked at before anything is written, and no program that it names is run."""
+import os
+import re
+import tarfile
+import tempfile
+from collections import Counter
+from dataclasses import dataclass, field
+
+from ..host import locks, pem, safe
+from ..room import settings
+from ..passwords import passwords
+from ..backup import backups
+from ..site import template
+from . import machine
+from ..cli.report import Refused, Stop, say
+from ..host.root import ROOT
+
+_MOST = 64 << 20
+_OWN_WORDS = ("machine/about", "machine/certificates", "machine/enabled", "machine/added")
+_PLACE = re.compile(r"(/[-A-Za-z0-9._+@,=:]+)+", re.ASCII)
+# Where a certificate or a key comes back to.
+CERTIFICATES = ("etc/ssl/", "etc/letsencrypt/", "etc/rooms/")
+# By its name and its place each of these is read by one reader, which knows what may be in it.
+_PLAIN = re.compile(
+    r"etc/rooms/([^/]+\.(on|names|groups|secret|password|keytab)|site|directory"
+    r"|offsite\.(key|key\.pub|hosts)|machines/[^/]+\.(pem|key))"
+    rf"|{passwords.KEPT[1:]}/.+|etc/nginx/{passwords.NAME}"
+    r"|etc/letsencrypt/(accounts/.+\.json|(archive|csr|keys|live)/.+\.pem|(.+/)?README)",
+    re.ASCII | re.DOTALL)
+_PLAIN_KEY = re.compile(rb"proxy_set_header Rooms-Key [0-9a-f]{48};\n")
+_PASSWORDS = re.compile(rf"({passwords.KEPT[1:]}/({passwords.NAME}|{passwords.FIRST})"
+                        rf"|etc/nginx/{passwords.NAME})", re.ASCII)
+_SITE = "etc/nginx/sites-available/rooms"
+_ROOM = re.compile(r"etc/rooms/[^/]+\.conf", re.DOTALL)
+
+
+@dataclass
+class File:
+    data: bytes = b""
+    mode: int = 0
+    link: str = ""
+    # Whether it was one to be run, which nothing that comes back is.
+    ran: bool = False
+
+
+@dataclass
+class Tar:
+    place: str
+    words: dict[str, str] = field(default_factory=dict)
+    files: dict[str, File] = field(default_factory=dict)
+    # Names of those certificates and keys that come back.
+    certificates: list[str] = field(default_factory=list)
+
+    def lines(self, word: str) -> list[str]:
+        return [one for one in self.words.get(word, "").split("\n") if one]
+
+    def rooms(self) -> list[str]:
+        """The files with the settings of rooms."""
+        return [one for one in sorted(self.files) if _ROOM.fullmatch(one)]
+
+    def date(self) -> str:
+        """When it was made, in its own words."""
+        found = re.search(r"^date (\d{4}-\d\d-\d\dT\d\d:\d\d:\d\dZ)$", self.words["machine/about"],
+                          re.ASCII | re.MULTILINE)
+        return found[1] if found else "another day"
+
+
+def find(conf: str, backup: str) -> str:
+    """A machine that is new may have no settings that can be read."""
+    folder = "/var/backups/rooms"
+    try:
+        with open(conf, encoding="utf-8", errors="surrogateescape") as source:
+            folder = settings.last(source.read().split("\n"), "BACKUPS") or folder
+    except OSError:
+        pass
+    folder = ROOT + folder
+    if backup == "latest":
+        found = backups.with_file(folder, settings.name_of(conf), "machine.tar")
+        if not found:
+            raise Refused(f"no machine: no backup in {folder} has a machine.tar")
+        backup = found[-1].place
+    for above in (backups.below(folder, settings.name_of(conf)), folder):
+        if "/" not in backup and os.path.isdir(os.path.join(above, backup)):
+            backup = os.path.join(above, backup)
+    if os.path.isdir(backup):
+        backup = os.path.join(backup, "machine.tar")
+    return os.path.abspath(backup)
+
+
+def _is_own_name(name: str, certificates: list[str]) -> bool:
+    parts = name.split("/")
+    return (not {"", ".", ".."} & set(parts) and "\\" not in name and name.isprintable()
+            and (machine.OWN.fullmatch(name) is not None or name in certificates))
+
+
+def _opened(place: str) -> int:
+    """What it has runs as root, so nobody else may have written it. Links on the way are those of
+    whoever has named it; what is looked at is what is read, whatever gets its name meanwhile."""
+    above, name = os.path.split(place)
+    try:
+        with safe.opened(safe.folder(above)) as within:
+            number = safe.file_below(within, name)
+    except safe.NoFile:
+        raise Refused(f"no machine: {place} isn't a file") from None
+    except OSError:
+        raise Refused(f"no machine: {place} isn't there or can't be read") from None
+    seen = os.fstat(number)
+    fault = ""
+    if seen.st_uid not in (0, os.geteuid()) or seen.st_mode & 0o022:
+        fault = (f"not safe: {place} is one that others can write, and what it has runs as root: "
+                 "copy it to where only root does, once you know that it is yours")
+    elif seen.st_size > _MOST:
+        fault = f"no machine: {place} has more than {_MOST >> 20} MB"
+    if fault:
+        os.close(number)
+        raise Refused(fault)
+    return number
+
+
+def _members(place: str) -> list[tuple[tarfile.TarInfo, bytes]]:
+    found = []
+    try:
+        with open(_opened(place), "rb") as opened, \
+                tarfile.open(fileobj=opened, mode="r:") as tar:
+            for member in tar:
+                # One with holes may be far larger than the tar.
+                plain = member.type == tarfile.REGTYPE and not member.issparse()
+                source = tar.extractfile(member) if plain else None
+                data = source.read() if source else b""
+                if source and len(data) != member.size:
+                    raise tarfile.ReadError("unexpected end of data")
+                found.append((member, data))
+    except (tarfile.TarError, OSError, EOFError, ValueError) as fault:
+        raise Refused(f"no machine: {place} isn't a whole tar: {fault}") from fault
+    return found
+
+
+def read(place: str) -> Tar:
+    """Nothing is written before every name, link and file was looked at."""
+    members = _members(place)
+    tar = Tar(place)
+    for member, data in members:
+        if member.name in _OWN_WORDS and member.type == tarfile.REGTYPE:
+            tar.words[member.name] = data.decode("utf-8", "surrogateescape")
+    for word in _OWN_WORDS[:2]:
+        if word not in tar.words:
+            raise Refused(f"no machine: {place} has no {word}")
+    elsewhere = _look_at_words(tar)
+    links = {member.name for member, _ in members if member.type != tarfile.REGTYPE}
+    for name, times in Counter(member.name for member, _ in members).items():
+        if times > 1:
+            raise Refused(f"not ours: {place} has '{name}' twice")
+        if name not in (*_OWN_WORDS, *elsewhere) and not _is_own_name(name, tar.certificates):
+            raise Refused(f"not ours: {place} has '{name}'")
+        if any(above in links for above in folders(name)):
+            raise Refused(f"not ours: {place} has '{name}' below a link")
+    for member, data in members:
+        if member.name in elsewhere:
+            say(f"left out: /{member.name}: certificates and keys come back below "
+                f"{', '.join('/' + one for one in CERTIFICATES)} alone: bring it there by hand")
+        elif member.name not in tar.words:
+            tar.files[member.name] = _look_at(tar, member, data)
+    _look_at_places(tar)
+    return tar
+
+
+def _look_at_words(tar: Tar) -> list[str]:
+    """Returns the certificates and keys that were elsewhere than where they come back to."""
+    elsewhere: list[str] = []
+    for one in tar.lines("machine/certificates"):
+        if not _PLACE.fullmatch(one) or {".", ".."} & set(one.split("/")):
+            raise Refused(f"not ours: {tar.place} names the certificate '{one}'")
+        name = one[1:]
+        (tar.certificates if name.startswith(CERTIFICATES) else elsewhere).append(name)
+    for one in tar.lines("machine/enabled"):
+        if not machine.ENABLED.fullmatch(one):
+            raise Refused(f"not ours: {tar.place} would enable '{one}'")
+    return elsewhere
+
+
+def folders(name: str) -> list[str]:
+    """Those on the way to a file, from the top."""
+    parts = name.split("/")
+    return ["/".join(parts[:number]) for number in range(1, len(parts))]
+
+
+def _look_at(tar: Tar, member: tarfile.TarInfo, data: bytes) -> File:
+    name = member.name
+    if member.type == tarfile.SYMTYPE:
+        if not machine.is_own_link(name, member.linkname):
+            raise Refused(f"not ours: {tar.place} has '{name}', a link to '{member.linkname}'")
+        return File(link=member.linkname)
+    if member.type != tarfile.REGTYPE or member.issparse() or member.mode & 0o7000:
+        raise Refused(f"not ours: {tar.place} has '{name}', which is no ordinary file")
+    if name in tar.certificates:
+        found = pem.anew(data)
+        if found is None:
+            raise Refused(f"not ours: '/{name}' in {tar.place} is no certificate and no key")
+        return File(found, 0o600 if pem.has_key(found) else 0o644)
+    if _PASSWORDS.fullmatch(name):
+        data = _passwords(name, data)
+    return File(data, member.mode & 0o644, ran=bool(member.mode & 0o111))
+
+
+def _passwords(name: str, data: bytes) -> bytes:
+    """The lines that are one of a user."""
+    rows = data.split(b"\n")
+    good = [row for row in rows if passwords.can_be_tried(row)]
+    if len(good) < len(rows):
+        say(f"left out: {len(rows) - len(good)} lines of /{name}, which nginx can't try, or not in "
+            "a moment: give these users new passwords")
+    return b"\n".join(good)
+
+
+def _is_here(name: str) -> bool:
+    """Whether there is a certificate or a key; something else of that name is no place for one."""
+    try:
+        with open(f"{ROOT}/{name}", "rb") as source:
+            if pem.anew(source.read(pem.MOST + 1)) is None:
+                raise Refused(f"another file: /{name} is here, and is no certificate and no key")
+    except FileNotFoundError:
+        return False
+    return True
+
+
+def _look_at_places(tar: Tar) -> None:
+    for name in tar.certificates:
+        if name in tar.files and not tar.files[name].link:
+            _is_here(name)
+    for name in tar.lines("machine/added"):
+        if not _is_own_name(name, tar.certificates):
+            raise Refused(f"not ours: {tar.place} would remove '{name}'")
+        if name in tar.certificates:
+            _is_here(name)
+
+
+def setting_of(data: bytes, name: str) -> str:
+    return settings.last(data.decode("utf-8", "replace").split("\n"), name) or ""
+
+
+def is_plain(tar: Tar, name: str) -> bool:
+    """Whether nothing runs as root by it. What isn't known to be so is told."""
+    file = tar.files[name]
+    if file.link:
+        return True
+    if name in tar.certificates:
+        # What is there may be believed by all of the machine.
+        return not name.startswith("etc/ssl/certs/")
+    if _ROOM.fullmatch(name):
+        return _is_plain_room(name, file.data)
+    if name == template.KEY[1:]:
+        return _PLAIN_KEY.fullmatch(file.data) is not None
+    return _is_made(tar) if name == _SITE else _PLAIN.fullmatch(name) is not None
+
+
+def _is_plain_room(name: str, data: bytes) -> bool:
+    """With the program of this machine, in the places of the package's rooms."""
+    word = settings.name_of(name)
+    known = settings.known(settings.Room)
+    lines = [one for one in data.decode("utf-8", "replace").split("\n") if one and one[0] != "#"]
+    return (all(one.partition("=")[0] in known for one in lines)
+            and setting_of(data, "PROGRAM") in ("", settings.PROGRAM)
+            and setting_of(data, "UNIT") in ("", f"rooms@{word}")
+            and not setting_of(data, "STANDBY")
+            and settings.matches(r"/var/lib/rooms/[A-Za-z0-9_-][^/]*", setting_of(data, "FILE"))
+            and settings.matches(r"/var/backups/rooms(/[A-Za-z0-9_-][^/]*)?",
+                                 setting_of(data, "BACKUPS")))
+
+
+def _is_made(tar: Tar) -> bool:
+    """Whether nginx's site is what `setup` makes of the settings that are in the tar."""
+    with tempfile.TemporaryDirectory(prefix="rooms-site.", dir=locks.FOLDER) as root:
+        os.makedirs(f"{root}/etc/rooms")
+        for name, file in tar.files.items():
+            if name.startswith("etc/rooms/") and name.count("/") == 2:
+                safe.put_file(f"{root}/{name}", file.data, 0o600)
+        try:
+            wanted = template.render(template.template("site.conf.in"), template.gather(root))
+        except (Stop, OSError):
+            return False
+    return wanted.encode(errors="surrogateescape") == tar.files[_SITE].data

@@ -1,0 +1,1 @@
+"""Files of passwords, and what can be one."""

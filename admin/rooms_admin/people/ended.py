@@ -1,0 +1,156 @@
+"""Which accesses are over, by the dates in lists, and how they are taken back."""
+import datetime
+import os
+import time
+from collections.abc import Iterable
+from dataclasses import dataclass, field
+
+from ..host import mail, safe
+from ..room import names, program, server
+from ..backup import backups
+from ..lists import dump
+from . import members
+from ..cli.report import say
+from ..room.settings import Room
+from ..lists.end_dates import Changed, Ending, ending, is_meant, taken_back
+
+NEXT = "the next run goes on"
+# A clock may be ahead for a night, and what was taken back doesn't come back. Where it is so far
+# from the last backup that there was before, it is only believed that a day has passed.
+TRUSTED, A_DAY = datetime.timedelta(7), datetime.timedelta(1)
+# How many lines a mail has, and the journal: anybody who manages some folder may cause one.
+MAILED, SAID = 50, 500
+# For so many seconds lists are set: whoever manages much could write many dates.
+REST = 20
+
+
+@dataclass
+class Due:
+    """An object's list, and that without what is over."""
+    path: bytes
+    before: list[str]
+    after: list[str]
+    ended: list[Ending] = field(default_factory=list)
+
+    @property
+    def ends(self) -> list[Ending]:
+        """Accesses, and not only what is still said of them."""
+        return [one for one in self.ended if not one.over]
+
+
+class Run:
+    """`last` is the day of the last backup before this night, if there was one."""
+
+    def __init__(self, room: Room, dry: bool, last: datetime.date | None) -> None:
+        self.room = room
+        self.dry = dry
+        self.last = last
+        self.clock = self.today = datetime.date.today()
+        if last and self.clock - last > TRUSTED:
+            self.today = last + A_DAY
+        self.waiting = 0
+        self.undone: list[str] = []
+
+    def not_done(self, path: bytes, what: str, why: str) -> None:
+        self.undone.append(f"not taken back: {names.shown(path)}: {what}: {why}")
+
+    def find(self, objects: Iterable[dump.Object]) -> list[Due]:
+        found = []
+        for one in objects:
+            lines = [raw.decode("utf-8", "surrogateescape") for raw in one.dacl]
+            due = Due(one.path, lines, lines)
+            for line in filter(is_meant, lines):
+                end = ending(line)
+                if end is None:
+                    self.undone.append(f"not understood: {names.shown(one.path)}: {line} is no "
+                                       "date, and whoever manages it removes that")
+                elif end.due(self.today):
+                    self.take(due, one.kind, end)
+                elif end.due(self.clock) and not end.over:
+                    self.waiting += 1
+            if due.ended:
+                found.append(due)
+        return found
+
+    def take(self, due: Due, kind: str, end: Ending) -> None:
+        try:
+            due.after = taken_back(due.after, kind, end, self.today)
+            due.ended.append(end)
+        except Changed as fault:
+            self.not_done(due.path, end.words(), str(fault))
+
+    def set(self, due: Due) -> None:
+        text = ("\n".join(due.after) + "\n").encode("utf-8", "surrogateescape")
+        status, out, why = program.run(self.room, ["reset", self.room.file, due.path, "dacl"], text)
+        for one in due.ends:
+            if status == 0:
+                print(f"taken back: {names.shown(due.path)}: {one.words()}", flush=True)
+            else:
+                self.not_done(due.path, one.words(), why or out.decode(errors="replace").strip())
+
+    def all(self, night: Iterable[dump.Object]) -> None:
+        """By the lists before a stop it is known whether anything is to be done. The list of an
+        object may be another one by then: only what it says then counts. What is only said of an
+        access that has ended goes with the next one."""
+        found = [due for due in self.find(night) if due.ends]
+        ahead = self.tell_ahead()
+        if found:
+            self.take_all(found)
+        self.undone += ahead
+
+    def tell_ahead(self) -> list[str]:
+        if not self.waiting:
+            return []
+        return [f"not taken back: {self.waiting} accesses that are over if the clock is right, "
+                f"which says {self.clock}; the last backup before is of {self.last}, and {NEXT}"]
+
+    def take_all(self, found: list[Due]) -> None:
+        if self.dry:
+            for due in found:
+                for one in due.ends:
+                    print(f"would take back: {names.shown(due.path)}: {one.words()}")
+            return
+        if server.state(self.room) != "active" and not os.path.exists(
+                server.left_at_rest(self.room)):
+            say(f"no server runs: {len(found)} lists have accesses that are over, and {NEXT}")
+            return
+        self.undone.clear()
+        with server.at_rest(self.room):
+            now = self.find(dump.parsed(members.printed(self.room, "dump").split(b"\n")))
+            begun = time.monotonic()
+            for number, due in enumerate(sorted(now, key=lambda due: not due.ends)):
+                if time.monotonic() - begun > REST:
+                    say(f"{len(now) - number} lists have accesses that are over, and {NEXT}")
+                    break
+                self.set(due)
+
+
+def last_day(room: Room, tonight: str = "") -> datetime.date | None:
+    """That of the newest backup but the one in the folder of tonight, by its name."""
+    found = [one for one in backups.known(room).backups if one.place != tonight]
+    try:
+        return datetime.date.fromisoformat(found[-1].name[:10]) if found else None
+    except ValueError:
+        return None
+
+
+def take_back(room: Room, lists: Iterable[bytes], last: datetime.date | None, dry: bool = False
+              ) -> list[str]:
+    """By the lists of a backup. Returns what couldn't be taken back, a line each."""
+    task = Run(room, dry, last)
+    task.all(dump.parsed(lists))
+    for line in task.undone[:SAID]:
+        say(line)
+    return task.undone
+
+
+def nightly(room: Room, lists: str) -> list[str]:
+    """Whoever manages some folder can write a date that can't be kept. So that is told in a mail of
+    its own, and makes no failure of the night."""
+    with safe.own_file(lists) as source:
+        undone = take_back(room, source, last_day(room, os.path.dirname(lists)))
+    if undone:
+        rest = [f"and {len(undone) - MAILED} more"] if len(undone) > MAILED else []
+        mail.notify(room.mail, f"{room.unit} on {os.uname().nodename}: accesses that should have "
+                    "ended", undone[:MAILED] + rest, "warning")
+    return []

@@ -1,0 +1,120 @@
+"""Who was last known to be in a room's groups, in one file of root's: whoever reads or changes the
+members keeps it. The names that the web interface offers are made of it, and groups sees by it
+whether the server has to stop."""
+import contextlib
+import os
+import re
+import time
+from dataclasses import dataclass
+
+from ..host import commands, safe, waiting
+from ..room import program, published, server
+from ..backup import backups, texts
+from ..lists import dump
+from . import members
+from ..cli.report import Refused, say
+from ..room.settings import Room
+from ..lists.dump import Pair
+
+FILE = "members.csv"
+_FIRST = re.compile(r" after (\d{1,9})(?: (\S*) of (file \d+ of -?\d+|))?", re.ASCII)
+
+
+@dataclass(frozen=True)
+class Known:
+    """`file` is that of the room of which this is known, and `number` and `name` are those of the
+    newest backup then: a clock may be set back. An earlier version has written less."""
+    members: set[Pair]
+    at: float
+    file: str = ""
+    number: int | None = None
+    name: str | None = None
+
+
+def which_file(room: Room) -> str:
+    """A restore puts another file into the room's place, with other members."""
+    return commands.run(["stat", "-c", "file %i of %W", "--", room.file]).out.strip()
+
+
+def here(room: Room, pairs: set[Pair], at: float | None = None) -> Known:
+    """Of the file that is there, at that moment or now."""
+    return Known(pairs, time.time() if at is None else at, which_file(room))
+
+
+def _path(room: Room) -> str:
+    return f"{published.FOLDER}/{published.name_of(room)}/{FILE}"
+
+
+def keep(room: Room, known: Known) -> None:
+    """Nobody waits for a disk of backups that hangs."""
+    about = ""
+    with contextlib.suppress(waiting.Hangs):
+        found = backups.known(room).backups
+        after = f"{found[-1].number} {found[-1].name}" if found else "0 "
+        about = f" after {after} of {known.file}"
+    published.folder(room)
+    safe.put_file(_path(room), members.as_text(known.members, about).encode(), 0o600, at=known.at)
+
+
+def try_to_keep(room: Room, known: Known) -> None:
+    if not published.has_name(room):
+        return
+    try:
+        keep(room, known)
+    except OSError:
+        say(f"{_path(room)} can't be written: the next run looks into the room again")
+
+
+def change(room: Room, before: set[Pair], joins: set[Pair], leaves: set[Pair]) -> set[Pair]:
+    """Who is there then, but for what somebody else changed by hand. What was known goes first: a
+    run that is cut off leaves nothing known, and the next one looks. No disk of backups is touched
+    while the server rests."""
+    with contextlib.suppress(FileNotFoundError):
+        if published.has_name(room):
+            os.unlink(_path(room))
+    members.change(room, joins, leaves)
+    return (before - leaves) | joins
+
+
+def kept(room: Room) -> Known | None:
+    """What was known last; nothing if nothing was."""
+    if not published.has_name(room):
+        return None
+    try:
+        with safe.own_file(_path(room)) as source:
+            text = source.read().decode("ascii", "replace")
+            at = os.fstat(source.fileno()).st_mtime
+    except FileNotFoundError:
+        return None
+    found = _FIRST.fullmatch(members.about(text))
+    if found is None:
+        return Known(members.of_text(text), at)
+    return Known(members.of_text(text), at, found[3] or "", int(found[1]), found[2])
+
+
+def is_newer(known: Known, last: backups.Backup) -> bool:
+    if known.number is None:
+        return known.at >= (backups.made(last) or 0)
+    name = last.name if known.name is None else known.name
+    return (known.number, name) >= (last.number, last.name)
+
+
+def in_backup(room: Room, last: backups.Backup, file: str = "") -> Known:
+    with texts.beside(room, last.place, texts.LISTS) as source:
+        return Known(dump.members(source), backups.made(last) or 0, file)
+
+
+def newest(room: Room) -> Known:
+    """A room that nobody serves is asked; of another one the last backup tells it, or what was
+    known last if that is newer, and of this file."""
+    if server.state(room) == "inactive":
+        return here(room, members.read(room, program.enough(room, room.file)))
+    found = backups.known(room).backups
+    last = kept(room)
+    if last is None and not found:
+        raise Refused(f"no backup yet, whose groups are shown: systemctl start {room.nightly}")
+    if last and not found:
+        return last
+    if last and is_newer(last, found[-1]) and last.file in ("", which_file(room)):
+        return last
+    return in_backup(room, found[-1], last.file if last and last.file == which_file(room) else "")

@@ -1,0 +1,132 @@
+"""Somebody leaves: the password goes first, so they are shut out whatever else is at work with the
+room; then their groups, for which alone the server stops; then what names them is printed, and
+given to somebody else. Whom nothing in the room names is most often somebody else, mistyped."""
+import os
+from collections.abc import Iterator
+from dataclasses import dataclass
+
+from ..cli import alike
+from ..passwords import passwords
+from ..backup import dates
+from ..lists import dump, naming
+from . import handing_over, joining, known, look, offered
+from ..cli.report import Refused, line, say
+from ..room.http_client import Caller
+from ..room.settings import Room
+from ..lists.dump import Object
+
+
+@dataclass(frozen=True)
+class Leaving:
+    """`place` is the room's name; of one on another machine this one has the passwords alone."""
+    place: str
+    room: Room | None
+    name: str
+    heir: str
+    is_password: bool
+    is_dry: bool
+
+    @property
+    def file(self) -> str:
+        return passwords.password_files(self.place)[0]
+
+    def with_password(self) -> set[str]:
+        return set[str]().union(*map(passwords.users, passwords.password_files(self.place)))
+
+
+def _shut_out(asked: Leaving) -> None:
+    if asked.is_dry:
+        print(f"would: no password for {asked.name} any more, in {asked.file}")
+        return
+    passwords.change(asked.place, {asked.name: None})
+    print(f"no password for {asked.name} any more, in {asked.file}", flush=True)
+
+
+def _password_alone(asked: Leaving) -> int:
+    has = asked.with_password()
+    if asked.name not in has:
+        say(f"nobody: {asked.name} has no password in {asked.file}"
+            f"{alike.meant(asked.name, has)}")
+        return 1
+    _shut_out(asked)
+    if asked.room and not asked.is_dry:
+        offered.show_known(asked.room)
+    return 0
+
+
+def _dump(asked: Leaving, room: Room) -> bytes:
+    return look.at(room, "dump", may_stop=not asked.is_dry)[0]
+
+
+def _rows(lists: bytes) -> Iterator[Object | dump.Pair]:
+    return dump.rows(lists.split(b"\n"))
+
+
+def _borne(lists: bytes) -> set[str]:
+    """Names of users."""
+    return {one.owner if isinstance(one, Object) else one[1] for one in _rows(lists)}
+
+
+def _need_heir(asked: Leaving, room: Room) -> None:
+    """Before anything has changed. No disk of backups is asked."""
+    last = known.kept(room)
+    has = asked.with_password()
+    if asked.heir in has or last and asked.heir in {user for _, user in last.members}:
+        return
+    with joining.locked(room):
+        lists = _dump(asked, room)
+    if not any(naming.of_user(_rows(lists), asked.heir)):
+        raise Refused(f"no heir: nobody is called {asked.heir}"
+                      f"{alike.meant(asked.heir, has | _borne(lists))}")
+
+
+def leave(asked: Leaving) -> int:
+    room = asked.room
+    if room is None or asked.is_password:
+        return _password_alone(asked)
+    if asked.heir:
+        _need_heir(asked, room)
+    has = asked.with_password()
+    done = ""
+    if asked.name in has:
+        _shut_out(asked)
+        done = f"{asked.name} has no password any more"
+    if not asked.is_dry:
+        dates.tell(room, "forget", asked.name)
+    with joining.locked(room, "" if asked.is_dry else done):
+        lists = _dump(asked, room)
+        found = list(naming.of_user(_rows(lists), asked.name))
+        if not done and not found:
+            say(f"nobody: {asked.name} has no password in {asked.file}, is in no group, owns "
+                f"nothing and stands in no list{alike.meant(asked.name, has | _borne(lists))}")
+            return 1
+        _leave_groups(asked, room, dump.members(lists.split(b"\n")))
+    if room.passwords != "file":
+        say(f"passwords of {asked.place} aren't in its file: {asked.name} has to leave where they "
+            "are too")
+    for one in found:
+        if isinstance(one.what, Object):
+            print("\n".join(map(line, one.lines())))
+    return _hand_over(asked, room, lists) if asked.heir else 0
+
+
+def _leave_groups(asked: Leaving, room: Room, before: set[dump.Pair]) -> None:
+    change = joining.asked(before, set(), {pair for pair in before if pair[1] == asked.name})
+    if asked.is_dry:
+        print("".join(f"{one}\n" for one in change.lines()), end="")
+        return
+    after = joining.make(room, change)
+    if not change.is_none:
+        print(joining.counted(after), flush=True)
+    offered.show(room, after)
+
+
+def _hand_over(asked: Leaving, room: Room, lists: bytes) -> int:
+    """By requests of the heir's, so that what the room denies them is left out and told. The lists
+    have no name, so a kill leaves none of them."""
+    number = os.memfd_create("lists", os.MFD_CLOEXEC)
+    with os.fdopen(number, "wb") as file:
+        file.write(lists)
+        file.flush()
+        return handing_over.give(room.conf, Caller(as_user=asked.heir), f"/proc/self/fd/{number}",
+                                 asked.name, asked.heir, asked.is_dry)

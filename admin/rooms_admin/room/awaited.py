@@ -1,0 +1,87 @@
+"""A room's server comes, and goes: others wait meanwhile, and who asked before is answered."""
+import http.client
+import os
+import time
+
+from ..host import safe
+from . import server, waits, way
+from ..cli.report import Stop
+from ..host.at_socket import AtSocket
+
+
+def _asked(connection: http.client.HTTPConnection) -> tuple[int, bytes] | None:
+    """An empty question, which changes nothing and needs no right."""
+    try:
+        connection.request("GET", "/can/?", headers={"Connection": "close"})
+        got = connection.getresponse()
+        return got.status, got.read(1 << 16)
+    except (OSError, http.client.HTTPException):
+        return None
+    finally:
+        connection.close()
+
+
+def _answer(port: str, path: str) -> tuple[int, bytes] | None:
+    if os.path.exists(path):
+        return _asked(AtSocket(path, waits.ANSWER))
+    return _asked(http.client.HTTPConnection("127.0.0.1", int(port), timeout=waits.ANSWER)
+                  ) if port else None
+
+
+def is_well(port: str, path: str) -> bool:
+    return _answer(port, path) == (200, b"{}")
+
+
+def arrive(room: str) -> None:
+    """A start that nobody was told of, such as that of the machine, has others wait as well."""
+    way.to_waiting(room)
+    # systemd waits for this process where the server has ended, and only then starts it again.
+    process = os.environ.get("MAINPID", "")
+    while _answer("", way.socket_of(room)) is None:
+        if process.isdigit() and not os.path.exists(f"/proc/{process}"):
+            raise Stop(f"the server of {room} has ended")
+        time.sleep(0.05)
+    way.to_server(room)
+
+
+def _comes_back(room: str) -> bool:
+    """Not where systemd was asked to stop the room, by somebody else than a verb that starts it
+    again: it has no other work to do with its unit then."""
+    unit = f"rooms@{room}"
+    if os.path.exists(server.mark_of(unit)):
+        return True
+    jobs = server.systemctl("list-jobs", "--plain", "--no-legend", f"{unit}.service")[1]
+    return not any(line.split()[1:3] == [f"{unit}.service", "stop"] for line in jobs.splitlines())
+
+
+def _answered(handle: int) -> None:
+    """Who came before this question is answered before it. It is asked twice, since somebody may
+    have seen the socket a moment before it went."""
+    ends = time.monotonic() + waits.LAST
+    asked = 0
+    while asked < 2 and time.monotonic() < ends:
+        connection = AtSocket(f"/proc/self/fd/{handle}", max(0.05, ends - time.monotonic()))
+        try:
+            connection.connect()
+        except BlockingIOError:
+            # As many wait as may: one more gets no place yet.
+            time.sleep(0.01)
+            continue
+        except OSError:
+            return
+        _asked(connection)
+        asked += 1
+
+
+def leave(room: str) -> None:
+    """One that has failed before it ever answered may do so again: nobody waits for that."""
+    before = way.server_there(room)
+    if _comes_back(room):
+        if before == -1 or not way.to_waiting(room):
+            way.close(room)
+    else:
+        way.close(room)
+        server.stop_beside(room)
+    if before != -1:
+        with safe.opened(before):
+            _answered(before)

@@ -1,0 +1,1 @@
+"""Files into a room, and out of it."""

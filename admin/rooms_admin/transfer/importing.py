@@ -1,0 +1,186 @@
+"""Files of a folder into a room, by the requests that any client may send."""
+import os
+from collections import Counter
+from dataclasses import dataclass, field
+
+from ..cli import report
+from ..host import safe
+from ..room import limit, names, settings
+from ..cli.report import Refused, Stop, say
+from ..room.http_client import Client
+from ..room.size import NoRoom, Reader
+
+MOST = 1048576
+
+
+class Full(Refused):
+    """The room takes nothing more."""
+
+
+class Space:
+    """What LIMIT leaves in a room of this machine, whose server is asked past nginx, which would
+    refuse what is too much."""
+
+    def __init__(self, word: str) -> None:
+        room = settings.room(word)
+        self.reader = Reader(room)
+        self.limit: int | None = None
+        try:
+            self.limit = limit.of(room)
+        except Stop as stop:
+            say(str(stop))
+
+    def need(self, size: int) -> None:
+        if self.limit is None:
+            return
+        try:
+            used = self.reader.look()
+        except NoRoom:
+            return
+        if used + size > self.limit << 20:
+            raise Full(f"the room is full: {used >> 20} MB of {self.limit} are in use, and nothing "
+                       "more is sent: once there is space, or with --force, the same command goes "
+                       "on")
+
+
+class Import:
+    def __init__(self, client: Client, replace: bool, space: Space | None) -> None:
+        self.client = client
+        self.replace = replace
+        self.space = space
+        self.made = self.replaced = self.same = self.number = self.total = 0
+
+    def make_folder(self, path: bytes, name: bytes) -> None:
+        if self.space:
+            self.space.need(0)
+        got = self.client.ask("POST", "folder", path)
+        if got.status == 201:
+            self.made += 1
+        elif got.status == 409:
+            if b'"why":"exists"' in got.body and (
+                    self.client.ask("GET", "doc", path).status != 200):
+                self.same += 1
+            else:
+                self.client.report(name, f"not made, since a document is in the way: {got.text()}")
+        elif self.client.is_there(path):
+            self.same += 1
+        else:
+            self.client.report(name, f"not made: {got.text()}")
+
+    def make_way(self, to: bytes) -> bool:
+        """PATH, and what is missing of the folders above it."""
+        parts = to.split(b"/")[1:]
+        for count in range(1, len(parts)):
+            way = b"/" + b"/".join(parts[:count])
+            if not self.client.is_there(way):
+                self.make_folder(way, way)
+            if self.client.left_out:
+                return False
+        self.make_folder(to, to)
+        return self.client.left_out == 0
+
+    def send(self, data: bytes, path: bytes, name: bytes) -> None:
+        if not self.replace:
+            there = self.client.ask("GET", "can", path)
+            if there.status == 200:
+                self.keep(data, path, name)
+                return
+            if there.status != 404:
+                self.client.report(name, f"not sent: {there.text()}")
+                return
+        if self.space:
+            self.space.need(len(data))
+        got = self.client.ask("PUT", "doc", path, data)
+        if got.status == 201:
+            self.made += 1
+        elif got.status == 204:
+            self.replaced += 1
+        else:
+            self.client.report(name, f"not sent: {got.text()}")
+
+    def keep(self, data: bytes, path: bytes, name: bytes) -> None:
+        """The document that is there is compared, if it can be read."""
+        got = self.client.ask("GET", "doc", path)
+        if got.status != 200:
+            self.client.report(name, "not replaced: something is there that can't be compared: "
+                               + got.text())
+        elif got.body == data:
+            self.same += 1
+        else:
+            self.client.report(name, "not replaced: another document is there; --replace would "
+                               "replace it")
+
+    def folder(self, at: int, path: bytes, name: bytes) -> None:
+        for child in children(at):
+            below = name + b"/" + child if name else child
+            self.number += 1
+            report.progress(f"{self.number} of {self.total}: {os.fsdecode(below)}")
+            target = path.rstrip(b"/") + b"/" + child
+            if why := names.why_not(child):
+                self.client.report(below, f"left out, with all below it: no room can have this "
+                                   f"name: {why}")
+                continue
+            try:
+                if safe.kind_below(at, child) == "folder":
+                    self.make_folder(target, below)
+                    try:
+                        inner = safe.folder_below(at, child)
+                    except OSError as fault:
+                        self.client.report(below, f"what is in it can't be read: {fault.strerror}")
+                        continue
+                    with safe.opened(inner):
+                        self.folder(inner, target, below)
+                    continue
+                with safe.opened(safe.file_below(at, child)) as number:
+                    data = safe.read_at_most(number, MOST)
+            except safe.NoFile as what:
+                self.client.report(below, str(what))
+                continue
+            except OSError as fault:
+                self.client.report(below, f"can't be read: {fault.strerror}")
+                continue
+            if len(data) > MOST:
+                self.client.report(below, f"more than {MOST} bytes")
+            else:
+                self.send(data, target, below)
+
+
+def children(at: int) -> list[bytes]:
+    return sorted(os.fsencode(name) for name in os.listdir(at))
+
+
+@dataclass
+class Tally:
+    """What is below a folder, by names alone: how many, and of which none is sent."""
+    total: int = 0
+    out: Counter[str] = field(default_factory=Counter)
+
+    def look(self, at: int) -> None:
+        for name in children(at):
+            self.total += 1
+            if names.why_not(name):
+                self.out["with names that no room can have"] += 1
+                continue
+            try:
+                self._one(at, name)
+            except OSError:
+                self.out["that can't be read"] += 1
+
+    def _one(self, at: int, name: bytes) -> None:
+        kind = safe.kind_below(at, name)
+        if kind == "folder":
+            with safe.opened(safe.folder_below(at, name)) as inner:
+                self.look(inner)
+        elif kind == "link":
+            self.out["links"] += 1
+        elif kind == "other":
+            self.out["neither files nor folders"] += 1
+        elif os.stat(name, dir_fd=at, follow_symlinks=False).st_size > MOST:
+            self.out[f"of more than {MOST} bytes"] += 1
+        elif not os.access(name, os.R_OK, dir_fd=at, effective_ids=True):
+            self.out["that can't be read"] += 1
+
+    def text(self) -> str:
+        left = ", ".join(f"{number} {what}" for what, number in sorted(self.out.items()))
+        return (f"of {self.total} files and folders no date, owner or right is taken over; "
+                f"left out: {left or 'none'}")
