@@ -1,10 +1,10 @@
 """Objects below a folder whose names contain a text, as far as the caller may see."""
-import unicodedata
 from urllib.parse import unquote_to_bytes
 
 from ...room.answers import Answer, Stop, told_as_it_comes
 from ...room.paths import Names
 from ...room.room import Reply, Room
+from ...texts.folding import folded
 from .walk import Node, Step, Walk, refuse_long, top_of
 
 LONGEST = 255
@@ -21,14 +21,6 @@ def text_of(query: str) -> str:
             letter < " " or letter == "\x7f" for letter in text):
         raise Stop(400, "bad-query", "a text of 1 to 255 bytes, without control bytes")
     return text
-
-
-def folded(text: str) -> str:
-    """So that capitals and marks don't matter, nor how a letter is written. The page filters an
-    open folder by the same rule (web/folder/sorting.js)."""
-    plain = "".join(letter for letter in unicodedata.normalize("NFKD", text)
-                    if not unicodedata.category(letter).startswith("M"))
-    return plain.upper().lower().replace("ς", "σ")
 
 
 class Find:

@@ -1,0 +1,1 @@
+"""Texts of a room's documents, as the last night found them."""
