@@ -6,7 +6,7 @@ if ! has python3; then
   return
 fi
 "$repo/tools/modules" --check >found
-same 'the modules, and their tables' found /dev/null
+same 'the modules, and their lists' found /dev/null
 
 # Lists are judged without a request and without a page; requests are made without a page.
 (cd "$repo" && grep -nE '\b(document|window|fetch|XMLHttpRequest)\b[.(]' web/acl/*.js) >found
@@ -108,7 +108,7 @@ holds "a folder without a line, and an import that goes up: $(cat found)" [ "$st
 holds 'a circle' grep -q '^these name one another: low/b/t[a-z]*.js low/b/t' found
 echo '## low: a part' >house/modules.txt
 house/tools/modules --check >found
-holds 'other tables' grep -q 'docs/architecture.md has other tables' found
+holds 'other lists' grep -q 'docs/architecture.md has other lists' found
 
 # Each file has parts that try it, and each part is one that some file has.
 . "$here/lib/parts.sh"
