@@ -10,6 +10,9 @@ from collections.abc import Callable
 _FIRST = 3
 # Seconds between two looks whether anything is left to do.
 _TICK = 5.0
+# Of a thread, most of which no memory is taken for. With much less, what somebody has put into one
+# another ten thousand times, as JSON, ends the process, and isn't refused: Python counts on it.
+STACK = 4 << 20
 
 
 def handed() -> socket.socket:
@@ -36,7 +39,7 @@ def serve(listener: socket.socket, most: int, idle: float,
         finally:
             free.release()
 
-    threading.stack_size(524_288)
+    threading.stack_size(STACK)
     listener.settimeout(_TICK)
     last = time.monotonic()
     while True:

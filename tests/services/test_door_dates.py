@@ -24,6 +24,12 @@ class Dates(Dated):
         self.add(line("carol", "POST", "/doc/f/a", 204, 4, at=NOW + 60))
         self.assertEqual(self.rows()["a"], {"size": 7, "when": int(NOW) + 60, "who": "carol"})
 
+    def test_a_body_in_which_much_stands_in_one_another(self) -> None:
+        """Whoever doesn't wait for the answer has their move noted, whatever it is."""
+        for many in (9000, 100_000):
+            self.add(line("bob", "POST", "/move/f/a", 499, 9, "[" * many))
+            self.assertEqual(self.rows(), {"a": {}, "b": {}, "g": {}})
+
     def test_without_names(self) -> None:
         for _ in range(2):
             self.add(line("bob", "PUT", "/doc/f/a", 204, 3))

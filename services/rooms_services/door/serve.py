@@ -11,6 +11,7 @@ import threading
 import traceback
 from urllib.parse import urlsplit
 
+from ..listening import STACK
 from ..room.answers import TEXT, Answer, Stop, reason
 from ..room.room import LARGEST, USER, Room
 from .routes import LONG_ROUTES, PREFIX, Asked, route_of
@@ -231,7 +232,7 @@ def opened(place: str, door: Door) -> Server:
     # The folder is this unit's own, so what is there was left by a door that was killed.
     if os.path.lexists(place):
         os.unlink(place)
-    threading.stack_size(524_288)
+    threading.stack_size(STACK)
     return Server(place, type("Opened", (Handler,), {"door": door}))
 
 
