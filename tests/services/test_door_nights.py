@@ -188,21 +188,29 @@ class Nights(Dated):
         self.assertEqual((rows["b"], rows["m"], rows["n"]), (before, before, {}))
         self.assertEqual(rows["e"], {"size": 0, "before": NIGHT // 1000})
 
-    def copied(self, *names: str) -> list[int | None]:
+    def copied(self, *names: str, since: float = 1e12) -> list[int | None]:
         self.keeper.catch_up()
-        return [self.keeper.in_copy(tuple(name.split("/"))) for name in names]
+        return [self.keeper.in_copy(tuple(way), int(since * 1000)).get(name)
+                for *way, name in (one.split("/") for one in names)]
 
     def test_where_it_stood_in_the_copy(self) -> None:
         self.add(line("bob", "PUT", "/doc/f/a", 204, 3), line("bob", "PUT", "/doc/f/b", 204, 3))
         self.assertEqual(self.copied("f/a"), [None])
         now = time.time() + 9
         self.night(F, A, B, at=int(now * 1000))
-        self.assertEqual(self.copied("f", "f/a", "f/b", "f/none"), [2, 3, 4, None])
+        self.assertEqual(self.copied("f", "f/a", "f/b", "f/none"), [None, 3, 4, None])
         # What moves stands there as before; what is new or changed doesn't.
         self.add(line("bob", "POST", "/move/f/a", 204, 9, '{"to":"/f/c"}', at=now + 60),
                  line("bob", "PUT", "/doc/f/a", 201, 3, at=now + 61),
                  line("bob", "POST", "/doc/f/b", 204, 3, at=now + 62))
         self.assertEqual(self.copied("f/c", "f/a", "f/b"), [3, None, None])
+        # For who asked the room before, it isn't what stood there.
+        self.assertEqual(self.copied("f/c", since=now + 60), [None])
+        self.add(line("bob", "POST", "/move/f", 204, 9, '{"to":"/h"}', at=now + 70))
+        self.assertEqual(self.copied("h/c", since=now + 71), [3])
+        self.assertEqual(self.copied("h/c", since=now + 70), [None])
+        self.add(line("bob", "POST", "/move/h", 204, 9, '{"to":"/f"}', at=now + 80))
+        self.assertEqual(self.copied("f/c"), [3])
         # Nor what changed since the next one was made.
         later: list[Object] = [(12, 0, "f", None, None), (13, 12, "a", 3, "11"),
                                (14, 12, "b", 6, "22"), (15, 12, "c", 3, "11")]

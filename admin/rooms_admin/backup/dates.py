@@ -24,12 +24,12 @@ _LIST = os.path.join(os.path.dirname(os.path.realpath(__file__)), "objects_of_co
 
 
 def _reader(room: Room) -> int | None:
-    """The user of the room's door, if one has kept dates."""
+    """The user of the room's door, if one has kept what changed."""
     try:
         seen = os.lstat(f"{ROOT}{CHANGES}/{room.name}")
     except OSError:
         return None
-    return seen.st_uid if room.dates and stat.S_ISDIR(seen.st_mode) else None
+    return seen.st_uid if room.notes_changes and stat.S_ISDIR(seen.st_mode) else None
 
 
 def _to(reader: int) -> int:
@@ -109,19 +109,37 @@ def _remove_fresh(room: Room) -> None:
         os.unlink(_fresh(room))
 
 
-def tell_night(room: Room, copied: str, at: int, megabytes: int) -> str:
-    """What a private copy has, of which all was so at that moment. Returns what hindered that."""
-    reader = _reader(room)
-    if reader is None:
-        return ""
-    try:
-        _write_list(room, reader, copied, at, megabytes)
-        os.rename(_fresh(room), f"{FOLDER}/{room.name}.night")
-        return ""
-    except OSError as fault:
-        return f"the dates of {room.name} lack this night: {fault.strerror or fault}"
-    finally:
-        _remove_fresh(room)
+class Night:
+    """What a private copy has, of which all was so at that moment."""
+
+    def __init__(self, room: Room) -> None:
+        self.room = room
+        self.has_list = False
+
+    def look(self, copied: str, at: int, megabytes: int) -> str:
+        """Returns what hindered that."""
+        reader = _reader(self.room)
+        if reader is None:
+            return ""
+        try:
+            _write_list(self.room, reader, copied, at, megabytes)
+            self.has_list = True
+            return ""
+        except OSError as fault:
+            return f"the dates of {self.room.name} lack this night: {fault.strerror or fault}"
+
+    def tell(self) -> None:
+        """What is made beside it is there by now."""
+        _put_list(self.room, self.has_list)
+
+    def end(self) -> None:
+        _remove_fresh(self.room)
+
+
+def _put_list(room: Room, has_list: bool) -> None:
+    if has_list:
+        with contextlib.suppress(OSError):
+            os.rename(_fresh(room), f"{FOLDER}/{room.name}.night")
 
 
 class Restored:
@@ -151,9 +169,7 @@ class Restored:
     def tell(self) -> None:
         """It is in the room's place."""
         tell(self.room, "restored", self.at)
-        if self.has_list:
-            with contextlib.suppress(OSError):
-                os.rename(_fresh(self.room), f"{FOLDER}/{self.room.name}.night")
+        _put_list(self.room, self.has_list)
 
     def end(self) -> None:
         _remove_fresh(self.room)

@@ -11,7 +11,7 @@ from dataclasses import dataclass
 from ..cli import report
 from ..host import locks, mail, safe
 from ..room import health, names, needs, private_server, program, server
-from . import backups, copying, dates, texts, tidying
+from . import backups, copying, dates, for_search, texts, tidying
 from ..cli.report import Interrupted, Stop, say
 from ..room.held import NotHeld
 from ..room.http_client import Caller, Client
@@ -36,6 +36,7 @@ class Night:
         self.failures: list[str] = []
         self.above = backups.folder(room)
         self.date = self.part = self.kept = ""
+        self.dates = dates.Night(room)
         # The private copy that the program works on, and how much memory it may have for that; and
         # a moment before it was made.
         self.copied = ""
@@ -65,6 +66,7 @@ class Night:
                 self.failed(text)
             self.look()
             self.for_users()
+            self.for_search()
         except Interrupted:
             self.failed(f"interrupted: there is no backup of {self.date}" if self.part else
                         f"interrupted: the backup of {self.date} may lack a part of what is "
@@ -100,7 +102,7 @@ class Night:
         self.tell_before(before)
         for name, (word, *rest) in texts.PRINTED.items():
             self.write_text(name, word, rest)
-        self.failed(dates.tell_night(self.room, self.copied, self.copied_at, self.memory))
+        self.failed(self.dates.look(self.copied, self.copied_at, self.memory))
         self.write_machine()
         self.remove_old(before)
 
@@ -312,9 +314,17 @@ class Night:
             except (OSError, Stop) as fault:
                 self.failed(str(fault))
 
+    def for_search(self) -> None:
+        """It may take half an hour. The door is told of the night behind it: what it says of a
+        document then is of the copy whose texts are searched."""
+        if self.kept:
+            self.failed(for_search.build(self.room, self.kept, self.copied_at, self.date))
+            self.dates.tell()
+
     def finish(self) -> int:
         """Somebody is told before the disk of backups is asked for anything, which may hang."""
         report.ignore_signals()
+        self.dates.end()
         before = len(self.failures)
         if before:
             tell(self.room, self.failures)

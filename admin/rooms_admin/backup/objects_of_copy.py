@@ -19,7 +19,8 @@ from collections.abc import Iterator
 SUM, SECONDS = 8, 1800
 
 
-def _objects(room: sqlite3.Connection) -> Iterator[tuple[object, ...]]:
+def objects(room: sqlite3.Connection) -> Iterator[tuple[int, int, str, bool]]:
+    """Number, number of the folder, name, and whether it is a folder."""
     roots = [row[0] for row in room.execute("SELECT id FROM nodes WHERE parent IS NULL")]
     level = [(one, 0) for one in roots[:1]]
     while level:
@@ -29,16 +30,18 @@ def _objects(room: sqlite3.Connection) -> Iterator[tuple[object, ...]]:
                     "SELECT id, name, kind FROM nodes WHERE parent = ?", (folder,)).fetchall():
                 if is_folder:
                     below.append((number, number))
-                    yield number, shown, name, None, None
-                else:
-                    yield number, shown, name, *_measured(room, number)
+                yield number, shown, name, bool(is_folder)
         level = below
 
 
-def _measured(room: sqlite3.Connection, number: int) -> tuple[int, str]:
+def body(room: sqlite3.Connection, number: int) -> bytes:
     row = room.execute("SELECT bytes FROM bodies WHERE node = ?", (number,)).fetchone()
-    body = bytes(row[0]) if row else b""
-    return len(body), hashlib.sha256(body).hexdigest()[:2 * SUM]
+    return bytes(row[0]) if row else b""
+
+
+def _measured(room: sqlite3.Connection, number: int) -> tuple[int, str]:
+    data = body(room, number)
+    return len(data), hashlib.sha256(data).hexdigest()[:2 * SUM]
 
 
 def main() -> None:
@@ -48,9 +51,10 @@ def main() -> None:
         # What the file says of its own tables runs no function of SQLite's.
         room.execute("PRAGMA trusted_schema = OFF")
         print(int(sys.argv[2]), int(time.time() * 1000))
-        for row in _objects(room):
+        for number, folder, name, is_folder in objects(room):
             count += 1
-            print(json.dumps(row))
+            measured = (None, None) if is_folder else _measured(room, number)
+            print(json.dumps((number, folder, name, *measured)))
     print(count)
 
 

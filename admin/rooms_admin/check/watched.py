@@ -14,7 +14,7 @@ from collections.abc import Callable
 
 from ..host import root, waiting
 from ..room import awaited, limit, needs, server, settings
-from ..backup import backups, growth, hours
+from ..backup import backups, for_search, growth, hours
 from ..site import apache, certificates, connections, template
 from ..cli.report import Refused, Stop
 from ..host.commands import printed
@@ -273,6 +273,23 @@ def see_nights(room: Room) -> list[Finding]:
     return [(OK, f"no earlier nights, since BACKUPS is below {hidden[0]}")] if hidden else []
 
 
+def see_search(room: Room) -> list[Finding]:
+    """Whether texts are there, where the settings let users search them."""
+    if not room.search or room.unit != f"rooms@{room.name}":
+        return []
+    found = []
+    if not shutil.which("pdftotext"):
+        found.append((WARNING, "no pdftotext, so no text of a PDF is searched: apt-get install "
+                      "poppler-utils"))
+    age = for_search.age(room)
+    if age is None:
+        found.append((WARNING, f"no texts are searched yet: systemctl start {room.nightly}"))
+    elif age > 50 * HOUR:
+        found.append((WARNING, f"the texts that are searched are {age / HOUR:.0f} hours old: "
+                      f"journalctl -u {for_search.unit(room.name)}"))
+    return found
+
+
 def see_namespaces(room: Room) -> list[Finding]:
     """A hardened kernel may allow none, and then systemd starts no unit that wants one."""
     try:
@@ -283,7 +300,8 @@ def see_namespaces(room: Room) -> list[Finding]:
         return []
     units = [room.unit, f"rooms-full@{room.name}",
              f"rooms-door@{room.name}",
-             *(["rooms-earlier"] if room.shows_nights else [])]
+             *(["rooms-earlier"] if room.shows_nights else []),
+             *(["rooms-texts"] if room.search else [])]
     want = [one for one in units if printed(
         ["systemctl", "show", "-p", "PrivateUsers", "--value", one]) not in ("", "no")]
     return [(CRITICAL, "this machine allows no namespaces of users, so these can't start: "
@@ -450,7 +468,7 @@ def see_certificates() -> list[Finding]:
 def of_room(conf: str) -> list[Finding]:
     room = settings.room(conf)
     looks = [see_owner, see_namespaces, see_answer, see_door, see_front, see_groups, see_timer,
-             see_mail]
+             see_mail, see_search]
     return [*(found for look in looks
               for found in within(PATIENCE, lambda: look(room), f"{room.unit} or nginx")),
             *within(20, lambda: see_disk(room), f"{room.folder}"),

@@ -54,8 +54,12 @@ def give(room: settings.Room, folder: str) -> None:
     """A folder of a run's own, with a copy in it, to the user who runs the program on copies. It is
     still root's alone, so all in it is what the run has put there."""
     user, group = program.user_of_copies(room)
-    if user == os.geteuid():
-        return
+    if user != os.geteuid():
+        give_to(folder, user, group)
+
+
+def give_to(folder: str, user: int, group: int) -> None:
+    """The same, to any user."""
     with safe.opened(safe.own_folder(folder)) as within:
         for name in os.listdir(within):
             with safe.opened(safe.file_below(within, name)) as number:

@@ -164,6 +164,7 @@ class Reached:
     behind: bool = yes("BEHIND")
     drive: bool = yes("DRIVE")
     dates: str = setting("DATES", r"(when|who)?", "when, who or empty")
+    search: bool = setting("SEARCH", r"yes|no", "yes or no", "no", lambda text: text == "yes")
     own_passwords: bool = setting("OWN_PASSWORDS", r"yes|no", "yes or no", "yes",
                                   lambda text: text == "yes")
     earlier: str = setting("EARLIER", r"owners|members|no", "owners, members or no", "owners")
@@ -174,6 +175,11 @@ class Reached:
     def shows_nights(self) -> bool:
         """Whether its users see earlier nights."""
         return self.earlier != "no"
+
+    @property
+    def notes_changes(self) -> bool:
+        """Whether its door keeps what changed: for dates, and for what a search may rely on."""
+        return bool(self.dates) or self.search
 
     @property
     def lets_guests(self) -> bool:

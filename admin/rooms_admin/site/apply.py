@@ -2,6 +2,7 @@
 import os
 
 from ..host import changes
+from ..backup import for_search
 from ..room import names, settings
 from . import connections, password_files, ports, template, values
 from ..host.changes import Changes
@@ -97,13 +98,16 @@ def _start_doors(made: Changes, wanted: template.Site) -> None:
 
 
 def serve(made: Changes, wanted: template.Site) -> None:
-    """A service waits at its socket where there is a room for it."""
+    """A service waits at its socket where there is a room for it, and what one keeps of another
+    room goes."""
+    for_search.tidy(made, {one.name for one in wanted.rooms if one.search})
     if made.root:
         return
     own = any(one.own for one in wanted.shown)
     earlier = any(one.shows_nights for one in wanted.rooms)
+    search = any(one.search for one in wanted.rooms)
     for name, is_wanted in (("password-file", own), ("own-password", own), ("nights", earlier),
-                            ("earlier", earlier)):
+                            ("earlier", earlier), ("extract", search), ("texts", search)):
         unit = f"rooms-{name}.socket"
         is_on = os.path.islink(f"/etc/systemd/system/sockets.target.wants/{unit}")
         if is_wanted != is_on:

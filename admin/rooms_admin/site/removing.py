@@ -4,7 +4,7 @@ from contextlib import ExitStack
 
 from ..host import locks
 from ..room import published, settings
-from ..backup import dates
+from ..backup import dates, for_search
 from . import password_files
 from ..cli.report import Refused
 from ..host.changes import Changes
@@ -31,6 +31,7 @@ def remove_room(made: Changes, name: str) -> None:
         say_kept(made, kept)
         made.remove_folder(f"{published.PLACE}/{name}")
         made.remove_folder(f"{dates.CHANGES}/{name}")
+        for_search.remove(made, name)
         for told in dates.files(name):
             made.remove(told)
         made.remove(conf)

@@ -137,7 +137,7 @@ def render(text: str, site: Site) -> str:
         "SESSION": bool(files["session"]),
         "PASSWORD_PAGE": not files["session"], "OWN": bool(files["own"]),
         "MACHINES": any(one.on for one in shown), "BEHIND": bool(site.behind),
-        "JOURNALS": any(one.dates for one in site.rooms),
+        "JOURNALS": any(one.notes_changes for one in site.rooms),
         "HTTP2_ON": bool(front.certificate) and site.http2 == "on"})
     for name, rows in _maps(site).items():
         text = text.replace(f"@{name}@\n", "".join(f"    {row};\n" for row in rows))
@@ -217,7 +217,7 @@ def _maps(site: Site) -> dict[str, list[str]]:
         "THERE": [f"{one.name} {one.on}" for one in site.shown if one.on],
         "FLAGS": [f"{one.name} {one.flag}" for one in site.shown if not one.on],
         "DRIVES": [f"{one.name} yes" for one in site.shown if one.on or one.drive],
-        "DATES": [f"{one.name} {one.name}" for one in site.shown if one.dates],
+        "DATES": [f"{one.name} {one.name}" for one in site.shown if one.notes_changes],
         "EARLIER": [f"{one.name} yes" for one in site.shown if one.on or one.shows_nights],
         "SESSIONS": [f"{one.name} 1" for one in site.shown if one.passwords == "session"],
         "CHANGES": [f'"{one.name} {f"/{one.name}" if one.on else ""}/password" {_changes(one)}'
@@ -226,7 +226,7 @@ def _maps(site: Site) -> dict[str, list[str]]:
         "BEHIND": [f'"~^/{one.name}(/|$)" {one.name}' for one in site.behind],
         "BEHIND_FLAGS": [f"{one.name} {one.flag}" for one in site.behind],
         "BEHIND_DRIVES": [f"{one.name} yes" for one in site.behind if one.drive],
-        "BEHIND_DATES": [f"{one.name} {one.name}" for one in site.behind if one.dates],
+        "BEHIND_DATES": [f"{one.name} {one.name}" for one in site.behind if one.notes_changes],
         "BEHIND_EARLIER": [f"{one.name} yes" for one in site.behind if one.shows_nights],
     }
 

@@ -18,7 +18,10 @@ if not __package__:
         above, os.path.join(os.path.dirname(above), "admin")]
 
 from rooms_services.door.changes.keeper import begun  # noqa: E402
+from rooms_services.door.search.reading import Reading  # noqa: E402
+from rooms_services.door.search.search import Texts  # noqa: E402
 from rooms_services.door.serve import serve  # noqa: E402
+from rooms_services.texts import feed  # noqa: E402
 
 
 class _Words(argparse.ArgumentParser):
@@ -26,7 +29,7 @@ class _Words(argparse.ArgumentParser):
         self.exit(2, f"rooms-door: bad arguments: {message}\n")
 
 
-def main() -> int:
+def _given() -> argparse.Namespace:
     words = _Words(prog="rooms-door", description=__doc__, allow_abbrev=False,
                    formatter_class=argparse.RawDescriptionHelpFormatter)
     words.add_argument("--room", required=True, help="the socket of the room")
@@ -44,12 +47,26 @@ def main() -> int:
     words.add_argument("--told", default="", help="the beginning of the names of the files in "
                        "which root tells what nginx doesn't")
     words.add_argument("--days", type=int, default=0, help="how long names are kept; 0 keeps them")
-    given = words.parse_args()
+    words.add_argument("--search", choices=("yes", "no", ""), default="",
+                       help="yes: texts are searched, those of the room --called")
+    words.add_argument("--called", default="", help="the room's name")
+    words.add_argument("--texts", default="/run/rooms-texts/socket",
+                       help="the socket of who keeps texts")
+    words.add_argument("--extract", default=feed.PLACE,
+                       help="the socket of who reads the text of one document")
+    return words.parse_args()
+
+
+def main() -> int:
+    given = _given()
     try:
         mark = os.path.join(os.path.dirname(given.listen), "dates")
-        keeper = begun(given.changes, given.dates, given.told, given.days, mark)
+        texts = Texts(given.called, given.texts, Reading(given.extract)) \
+            if given.search == "yes" else None
+        keeper = begun(given.changes, given.dates, given.told, given.days, mark, bool(texts))
         signal.signal(signal.SIGTERM, signal.default_int_handler)
-        serve(given.room, given.listen, given.would, given.drive == "yes", given.full, keeper)
+        serve(given.room, given.listen, given.would, given.drive == "yes", given.full, keeper,
+              texts)
     except KeyboardInterrupt:
         pass
     except OSError as fault:

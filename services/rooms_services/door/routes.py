@@ -13,15 +13,16 @@ from .folders.find import find
 from .folders.goes import goes
 from .folders.matched import condition_of, read, replace, tag_alone
 from .folders.would import Would, would
+from .search.search import Texts, search
 from ..room.paths import Names, chosen_in, names_in
 from ..room.room import Room
 
 PREFIX = "/door/"
 # What may take long, each with its kind.
 LONG_ROUTES = {"below": "walk", "closed": "walk", "find": "walk", "folder": "walk", "goes": "walk",
-               "latest": "walk", "would": "walk", "zip": "zip"}
+               "latest": "walk", "search": "search", "would": "walk", "zip": "zip"}
 # Behind what a query may stand.
-_ASKING = ("below", "find", "goes", "zip")
+_ASKING = ("below", "find", "goes", "search", "zip")
 # Behind what no path stands.
 _PATHLESS = ("would",)
 
@@ -38,9 +39,15 @@ class Asked:
     # The value of a field of the head, or nothing.
     field: Callable[[str], str]
     body: bytes
-    # None where no dates are kept.
+    # None where it isn't kept what changed, and where texts aren't searched.
     keeper: Keeper | None
+    texts: Texts | None
     would: Would
+
+    @property
+    def dates(self) -> Keeper | None:
+        """If any are shown."""
+        return self.keeper if self.keeper and self.keeper.shows else None
 
     def conditions(self) -> tuple[str, str]:
         return self.field("If-Match"), self.field("If-None-Match")
@@ -58,15 +65,19 @@ def _closed(asked: Asked) -> Answer:
 
 
 def _folder(asked: Asked) -> Answer:
-    return listed(asked.room, asked.user, asked.names, asked.keeper)
+    return listed(asked.room, asked.user, asked.names, asked.dates)
 
 
 def _latest(asked: Asked) -> Answer:
-    return latest(asked.room, asked.user, asked.names, asked.keeper)
+    return latest(asked.room, asked.user, asked.names, asked.dates)
 
 
 def _find(asked: Asked) -> Answer:
     return find(asked.room, asked.user, asked.names, asked.query)
+
+
+def _search(asked: Asked) -> Answer:
+    return search(asked.room, asked.user, asked.names, asked.query, asked.texts, asked.keeper)
 
 
 def _goes(asked: Asked) -> Answer:
@@ -99,7 +110,7 @@ _MATCHED: dict[str, Route] = {"GET": _read, "HEAD": _tag, "PUT": _replace}
 ROUTES: dict[str, dict[str, Route]] = {
     "below": {"GET": _below}, "closed": {"GET": _closed}, "find": {"GET": _find},
     "folder": {"GET": _folder}, "goes": {"GET": _goes}, "latest": {"GET": _latest},
-    "would": {"POST": _would}, "zip": {"GET": _zip},
+    "would": {"POST": _would}, "search": {"GET": _search}, "zip": {"GET": _zip},
     "doc": _MATCHED, "dacl": _MATCHED, "sacl": _MATCHED}
 
 

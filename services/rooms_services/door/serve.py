@@ -17,6 +17,7 @@ from ..room.room import LARGEST, USER, Room
 from .routes import LONG_ROUTES, PREFIX, Asked, route_of
 from ..room.turns import Users
 from .changes.keeper import Keeper
+from .search.search import Texts
 from .folders.would import Would
 from .webdav.calls import Drive
 from .webdav.kept import Kept
@@ -32,11 +33,12 @@ _ABOVE = re.compile(r"(/[a-z0-9-]{1,32})?")
 
 
 class Door:
-    """A door may have no drive, and keep no dates. `full` is the path of a file that is there while
-    the room takes no more."""
+    """A door may have no drive, keep no dates, and search no texts. `full` is the path of a file
+    that is there while the room takes no more."""
 
     def __init__(self, room: Room, would: Would, drive: Drive | None = None, full: str = "",
-                 keeper: Keeper | None = None) -> None:
+                 keeper: Keeper | None = None, texts: Texts | None = None) -> None:
+        self.texts = texts
         self.room = room
         self.would = would
         self.drive = drive
@@ -149,7 +151,8 @@ class Handler(http.server.BaseHTTPRequestHandler):
                               self._field, body)
             route, word, names, query = route_of(self.command, self.path)
             return route(Asked(self.door.room, user, self.command, word, names, query,
-                               self._field, body, self.door.keeper, self.door.would))
+                               self._field, body, self.door.keeper, self.door.texts,
+                               self.door.would))
         except Stop as stop:
             return stop.answer(drive is not None)
         except OSError:
@@ -237,11 +240,11 @@ def opened(place: str, door: Door) -> Server:
 
 
 def serve(room: str, listen: str, would: str, has_drive: bool, full: str,
-          keeper: Keeper | None) -> None:
+          keeper: Keeper | None, texts: Texts | None) -> None:
     kept = os.path.join(os.path.dirname(listen), "locks")
     drive = Drive(Kept(kept), full) if has_drive else None
     asked = Room(room, note=keeper.note if keeper else None)
-    with opened(listen, Door(asked, Would(would), drive, full, keeper)) as server:
+    with opened(listen, Door(asked, Would(would), drive, full, keeper, texts)) as server:
         if keeper:
             threading.Thread(target=keeper.run, daemon=True).start()
         print(f"listening {listen}", file=sys.stderr, flush=True)

@@ -31,7 +31,10 @@ _FAULTS = (ValueError, zipfile.BadZipFile, expat.ExpatError, EOFError, NotImplem
 
 def _pdf(data: bytes, sink: Sink) -> State:
     """The program has this process's limits, and ends with it. It reads all before it writes."""
-    child = commands.started(_PDF, processes.end_with_parent)
+    try:
+        child = commands.started(_PDF, processes.end_with_parent)
+    except FileNotFoundError:
+        return State.LACKS
     assert child.stdin and child.stdout
     try:
         child.stdin.write(data)

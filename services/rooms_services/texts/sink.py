@@ -17,8 +17,15 @@ class State(Enum):
     BROKEN = "broken"
     # It took too long, or too much memory.
     LATE = "late"
+    # What reads it isn't installed.
+    LACKS = "lacks"
     # It wasn't its turn yet.
     LATER = "later"
+
+    @property
+    def may_change(self) -> bool:
+        """Though the document's bytes don't."""
+        return self in (State.LACKS, State.LATER)
 
 
 class Full(Exception):

@@ -37,8 +37,8 @@ class Unknown(Exception):
 
 
 class Keeper:
-    """Of one room. `shows` is 'when' or 'who'; `told` is the beginning of the files in which root
-    tells something (nights), and names are kept for so many days."""
+    """Of one room. `shows` is 'when', 'who' or nothing; `told` is the beginning of the files in
+    which root tells something (nights), and names are kept for so many days."""
 
     def __init__(self, folder: str, shows: str, told: str = "", days: int = 0,
                  mark: str = "") -> None:
@@ -356,10 +356,14 @@ class Keeper:
         except Unknown:
             return {}
 
-    def in_copy(self, names: Names) -> int | None:
-        """Its number in the last night's copy, if it is as that has it and all changes since then
-        are known."""
-        return self._ask(lambda store: store.in_copy(names) if store.vouched() else None)
+    def vouched(self) -> int | None:
+        """The moment of the last night's copy, if all changes since then are known."""
+        return self._ask(lambda store: store.vouched())
+
+    def in_copy(self, folder: Names, since: int) -> dict[str, int]:
+        """The numbers that documents in a folder have in that copy, if they are as it has them, and
+        stood there at this moment, in milliseconds."""
+        return self._ask(lambda store: store.in_copy(folder, since) if store.vouched() else {})
 
     def find(self, names: Names) -> int | None:
         return self._ask(lambda store: store.find(names))
@@ -372,11 +376,11 @@ class Keeper:
 
 
 def begun(folder: str, shows: str, told: str = "", days: int = 0,
-          mark: str = "") -> Keeper | None:
-    """What was kept goes where nothing is kept any more."""
+          mark: str = "", is_searched: bool = False) -> Keeper | None:
+    """What was kept goes where nothing is kept any more, for dates or for searches."""
     if not folder:
         return None
-    if shows:
+    if shows or is_searched:
         return Keeper(folder, shows, told, days, mark)
     with suppress(OSError):
         for name in os.listdir(folder):

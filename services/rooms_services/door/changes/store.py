@@ -328,13 +328,22 @@ class Store:
             "SELECT node.up FROM node, kept WHERE node.id = kept.id) "
             "DELETE FROM node WHERE id NOT IN kept", (night,))
 
-    def in_copy(self, names: Names) -> int | None:
-        """The number that an object has in the copy of the last night whose list was taken whole;
-        None of what is new or changed since."""
-        found = self.find(names)
-        row = self._db.execute("SELECT copied FROM node WHERE id = ? AND night = ?",
-                               (found, self.told(COPY))).fetchone() if found else None
-        return row[0] if row else None
+    def in_copy(self, folder: Names, since: int) -> dict[str, int]:
+        """Of documents in a folder: the numbers that they have in the copy of the last night whose
+        list was taken whole. One lacks that is new or changed since, or that has moved since a
+        moment, itself or with a folder."""
+        found = self.find(folder)
+        if found is None or self._has_moved(found, since):
+            return {}
+        return dict(self._db.execute(
+            "SELECT name, copied FROM node WHERE up = ? AND folder = 0 AND night = ? AND "
+            "copied IS NOT NULL AND coalesce(moved, 0) < ?", (found, self.told(COPY), since)))
+
+    def _has_moved(self, one: int, since: int) -> bool:
+        return self._db.execute(
+            "WITH RECURSIVE above(id) AS (VALUES(?) UNION SELECT node.up FROM node, above "
+            "WHERE node.id = above.id) SELECT 1 FROM node WHERE id IN above AND moved >= ?",
+            (one, since)).fetchone() is not None
 
     def vouched(self) -> int | None:
         """The moment of that copy, if each change since then is known."""

@@ -1,0 +1,181 @@
+"""Has the documents of a night's copy read, one by one: the service rooms-texts-night@. Root has
+put the copy into a folder of its own (admin/rooms_admin/backup/for_search.py) and takes it away.
+What the last night had read isn't read again, nor is what nothing could be read of, until its bytes
+change. What a night has no time for has no text until the next one."""
+import contextlib
+import csv
+import json
+import os
+import shutil
+import signal
+import sqlite3
+import struct
+import sys
+import time
+from collections import Counter, deque
+from collections.abc import Callable, Iterator
+from concurrent.futures import Future, ThreadPoolExecutor
+from typing import NamedTuple
+
+from rooms_admin.backup import objects_of_copy
+from rooms_admin.cli import signs
+from rooms_admin.room import names
+
+from . import feed, nights
+from .extract import VERSION
+from .folding import folded, plain
+from .sink import State
+from .store import Making, sum_of
+
+# Seconds of a night, at how many documents are read at once, and how many wait for that.
+SECONDS, AT_ONCE, WAITING = 1800.0, 3, 12
+# How often one is asked for that is refused, and how many in a row, until there seem to be none.
+TRIES, PAUSE, NOBODY = 5, 0.4, 20
+# After these seconds a file ends it that was made to take long.
+LONGEST = 2700
+LIST = "without.csv"
+Read = Callable[[bytes], tuple[State, str]]
+
+
+# What a copy may be that somebody has made up.
+FAULTS = (sqlite3.Error, struct.error, ValueError, TypeError, ArithmeticError)
+
+
+class NobodyReads(Exception):
+    """No process begins that reads a document."""
+
+
+class Document(NamedTuple):
+    number: int
+    path: str
+    data: bytes
+
+
+def documents(file: str) -> Iterator[Document]:
+    """Of a copy of a room. Whoever had its server in their hands may have written it."""
+    with contextlib.closing(sqlite3.connect(file)) as room:
+        # What the file says of its own tables runs no function of SQLite's.
+        room.execute("PRAGMA trusted_schema = OFF")
+        above: dict[int, tuple[int, str]] = {}
+        for number, up, name, is_folder in objects_of_copy.objects(room):
+            if is_folder:
+                above[number] = up, name
+            else:
+                yield Document(number, _path(above, up, name), objects_of_copy.body(room, number))
+
+
+def _path(above: dict[int, tuple[int, str]], up: int, name: str) -> str:
+    parts = [name]
+    while up and up in above:
+        up, name = above[up]
+        parts.append(name)
+    return "/" + "/".join(reversed(parts))
+
+
+class Night:
+    def __init__(self, room: str, read: Read = feed.text_of, seconds: float = SECONDS) -> None:
+        self.room = room
+        self._read = read
+        self._until = time.monotonic() + seconds
+        self._fresh = os.path.join(nights.FOLDER, room, nights.NEW)
+        self._refused = 0
+        self._waits: deque[tuple[bytes, Future[tuple[State, str]]]] = deque()
+        self._sums: list[tuple[str, bytes]] = []
+        self.read = 0
+
+    def _text(self, data: bytes) -> tuple[State, str]:
+        """Others may be read at the same moment, of another room."""
+        for _ in range(TRIES):
+            if time.monotonic() > self._until:
+                break
+            state, text = self._read(data)
+            if state is not State.LATER:
+                self._refused = 0
+                return state, text
+            time.sleep(PAUSE)
+        self._refused += time.monotonic() < self._until
+        return State.LATER, ""
+
+    def make(self, file: str, at: int, night: str) -> Counter[State]:
+        last = nights.last(self.room)
+        if os.path.lexists(self._fresh):
+            shutil.rmtree(self._fresh)
+        making = Making(self._fresh)
+        try:
+            with ThreadPoolExecutor(AT_ONCE) as pool:
+                before = last.by_sum() if last and last.reader == VERSION else {}
+                for number, path, data in documents(file):
+                    total = sum_of(data)
+                    making.note(number, total)
+                    self._sums.append((path, total))
+                    if making.has(total):
+                        continue
+                    there = before.get(total)
+                    if last and there and not there.state.may_change:
+                        making.put(total, there.state, last.text(there))
+                        continue
+                    # (its place is taken; the text comes behind it)
+                    making.put(total, State.LATER, b"")
+                    self._waits.append((total, pool.submit(self._text, data)))
+                    self._settle(making, WAITING)
+                self._settle(making, 0)
+            making.end({"at": at, "night": night})
+        finally:
+            making.close()
+        return self._keep(making, at)
+
+    def _settle(self, making: Making, most: int) -> None:
+        while len(self._waits) > most:
+            total, future = self._waits.popleft()
+            state, text = future.result()
+            self.read += state is not State.LATER
+            making.put(total, state, folded(plain(text)).encode())
+            if self._refused >= NOBODY:
+                self._waits.clear()
+                self._until = 0.0
+                raise NobodyReads
+
+    def _keep(self, making: Making, at: int) -> Counter[State]:
+        """It gets its name, and what was before goes."""
+        states = Counter(making.state(total) for _, total in self._sums)
+        self._write_list(making)
+        place = nights.place(self.room, at)
+        if os.path.lexists(place):
+            shutil.rmtree(place)
+        os.rename(self._fresh, place)
+        nights.keep_only(self.room, at)
+        return states
+
+    def _write_list(self, making: Making) -> None:
+        """What has no text, or not all of it, and why."""
+        place = os.path.join(nights.FOLDER, self.room, LIST)
+        with open(f"{place}.new", "w", encoding="utf-8", errors="replace", newline="") as out:
+            rows = csv.writer(out, lineterminator="\n")
+            rows.writerow(("why", "path"))
+            for path, total in self._sums:
+                if (state := making.state(total)) is not State.WHOLE:
+                    rows.writerow((state.value, signs.laid_open(path)))
+        os.rename(f"{place}.new", place)
+
+
+def run() -> int:
+    room = os.environ.get("ROOM", "")
+    if not names.is_room(room):
+        raise SystemExit("rooms-service: ROOM is no name of a room: its unit starts this")
+    os.umask(0o077)
+    signal.alarm(LONGEST)
+    folder = os.path.join(nights.FOLDER, f"{room}.copy")
+    with open(f"{folder}/about", "rb") as source:
+        about = json.loads(source.read(4096))
+    night = Night(room)
+    try:
+        states = night.make(f"{folder}/room", int(about["at"]), str(about["night"]))
+    except NobodyReads:
+        print("no document is read: systemctl status rooms-extract.socket", file=sys.stderr)
+        return 1
+    except FAULTS as fault:
+        print(f"the copy can't be read: {fault}", file=sys.stderr)
+        return 1
+    print(f"{states.total()} documents, {night.read} read tonight, "
+          f"{states.total() - states[State.WHOLE]} without all of their text", flush=True)
+    return 0

@@ -1,0 +1,168 @@
+"""The folded texts of a room's documents as one night found them: FOLDER/texts, in which they stand
+one after the other, and FOLDER/index, which says where. Both are made anew each night, of that
+night's documents alone: what was removed is in neither. Nothing in them is made of several
+documents, so nothing that is answered of one depends on another. A document has the number that the
+night's copy gave it, and no name here."""
+import hashlib
+import json
+import mmap
+import os
+import struct
+from collections.abc import Iterable
+from typing import IO, NamedTuple
+
+from .extract import VERSION
+from .sink import State
+
+# Of a folded text: a letter may become eighteen.
+MOST_FOLDED = 2 << 20
+# Of the form of these files.
+FORM = 1
+_ROW = struct.Struct("<qqIB32s")
+_STATES = list(State)
+_BEGIN = 4096
+
+
+class Place(NamedTuple):
+    """Where the text of a document stands, what came of it, and the sum of its bytes."""
+    at: int
+    length: int
+    state: State
+    sum: bytes
+
+
+class Hit(NamedTuple):
+    """In how many places a document has the words."""
+    number: int
+    places: int
+
+
+class Looked(NamedTuple):
+    """`empty` is how many have no text, or not all of it; what isn't known is new to it."""
+    hits: list[Hit]
+    unknown: list[int]
+    empty: int
+
+
+def sum_of(data: bytes) -> bytes:
+    return hashlib.sha256(data).digest()
+
+
+class NoStore(Exception):
+    """There is none, or it isn't whole."""
+
+
+class Making:
+    """A store, while it is made. Equal bytes have one text, which is found by a number alone."""
+
+    def __init__(self, folder: str) -> None:
+        self._folder = folder
+        os.mkdir(folder, 0o700)
+        self._out: IO[bytes] = open(f"{folder}/texts", "xb")
+        self._size = 0
+        self._by_sum: dict[bytes, Place] = {}
+        self._rows: list[tuple[int, bytes]] = []
+
+    def has(self, total: bytes) -> bool:
+        return total in self._by_sum
+
+    def note(self, number: int, total: bytes) -> None:
+        """A document with these bytes, whose text is put before the end."""
+        self._rows.append((number, total))
+
+    def put(self, total: bytes, state: State, folded: bytes) -> None:
+        if len(folded) > MOST_FOLDED:
+            # (half a letter at its end is found by nobody)
+            state, folded = State.CUT, folded[:MOST_FOLDED]
+        self._by_sum[total] = Place(self._size, len(folded), state, total)
+        self._out.write(folded)
+        self._size += len(folded)
+
+    def state(self, total: bytes) -> State:
+        return self._by_sum[total].state
+
+    def end(self, about: dict[str, object]) -> None:
+        """It is on the disk, and whole."""
+        with self._out:
+            _sync(self._out)
+        head = {**about, "form": FORM, "reader": VERSION, "size": self._size,
+                "documents": len(self._rows)}
+        with open(f"{self._folder}/index", "xb") as out:
+            out.write(json.dumps(head).encode() + b"\n")
+            for number, total in self._rows:
+                at, length, state, _ = self._by_sum[total]
+                out.write(_ROW.pack(number, at, length, _STATES.index(state), total))
+            _sync(out)
+        folder = os.open(self._folder, os.O_RDONLY)
+        try:
+            os.fsync(folder)
+        finally:
+            os.close(folder)
+
+    def close(self) -> None:
+        self._out.close()
+
+
+def _sync(out: IO[bytes]) -> None:
+    out.flush()
+    os.fsync(out.fileno())
+
+
+class Store:
+    """A store that is whole, to be read."""
+
+    def __init__(self, folder: str) -> None:
+        try:
+            self._read(folder)
+        except (OSError, ValueError, KeyError, TypeError, IndexError, struct.error) as fault:
+            raise NoStore(f"{folder}: {fault}") from None
+
+    def _read(self, folder: str) -> None:
+        with open(f"{folder}/index", "rb") as source:
+            head = json.loads(source.readline(_BEGIN))
+            rows = source.read()
+        self.night, self.reader, size = str(head["night"]), int(head["reader"]), int(head["size"])
+        if head["form"] != FORM or len(rows) != int(head["documents"]) * _ROW.size:
+            raise ValueError("the index isn't whole")
+        same: dict[bytes, bytes] = {}
+        self._places: dict[int, Place] = {}
+        for number, at, length, state, total in _ROW.iter_unpack(rows):
+            if at < 0 or at + length > size:
+                raise ValueError("a text isn't there")
+            self._places[number] = Place(at, length, _STATES[state],
+                                         same.setdefault(total, total))
+        with open(f"{folder}/texts", "rb") as source:
+            if os.fstat(source.fileno()).st_size != size:
+                raise ValueError("the texts aren't whole")
+            self._texts: mmap.mmap | bytes = mmap.mmap(
+                source.fileno(), size, access=mmap.ACCESS_READ) if size else b""
+
+    def by_sum(self) -> dict[bytes, Place]:
+        return {one.sum: one for one in self._places.values()}
+
+    def text(self, place: Place) -> bytes:
+        return self._texts[place.at:place.at + place.length]
+
+    def match(self, words: Iterable[bytes], numbers: Iterable[int]) -> Looked:
+        """Of these documents alone. What comes of one depends on nothing but its own text."""
+        words = list(words)
+        hits: list[Hit] = []
+        unknown: list[int] = []
+        empty = 0
+        for number in numbers:
+            place = self._places.get(number)
+            if place is None or place.state is State.LATER:
+                # (it wasn't its turn that night)
+                unknown += [number] if place is None else []
+                empty += place is not None
+                continue
+            empty += place.state is not State.WHOLE
+            text = self.text(place)
+            if all(word in text for word in words):
+                hits.append(Hit(number, sum(map(text.count, words))))
+        return Looked(hits, unknown, empty)
+
+    def sums(self, numbers: Iterable[int]) -> list[str]:
+        """Nothing for one that isn't there."""
+        return [place.sum.hex() if (place := self._places.get(number)) else ""
+                for number in numbers]
