@@ -37,6 +37,9 @@ def seconds_of(work):
 class Room:
     """The room, its server while it runs, and one connection to that."""
 
+    # What the server is started under.
+    front: tuple[str, ...] = ()
+
     def __init__(self, owner="alice", group="staff"):
         self.folder = tempfile.mkdtemp(prefix="rooms-speed-")
         self.file = f"{self.folder}/F"
@@ -75,7 +78,8 @@ class Room:
         free.close()
         began = time.monotonic()
         self.server = subprocess.Popen(
-            [PROGRAM, "serve", self.file, "--port", str(self.port), "--count", "1000000"],
+            [*self.front, PROGRAM, "serve", self.file, "--port", str(self.port),
+             "--count", "1000000"],
             stdout=subprocess.PIPE,
             env={**os.environ, **dict(it.split("=", 1) for words in of_unit for it in words)},
         )
