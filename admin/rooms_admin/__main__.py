@@ -22,9 +22,18 @@ def _run(verb: str, words: list[str]) -> int:
     except reading.Asked as asked:
         print(manual.explain(verb, asked.parser), end="")
         return 0
-    if _changes(verb, given):
-        journal.tell(verb, words)
-    return int(module.run(given))
+    if not _changes(verb, given):
+        return int(module.run(given))
+    journal.begins(verb, words)
+    status = 1
+    try:
+        status = int(module.run(given))
+    except report.Stop as stop:
+        status = stop.status
+        raise
+    finally:
+        journal.ends(verb, status)
+    return status
 
 
 def _changes(verb: str, given: argparse.Namespace) -> bool:

@@ -18,7 +18,7 @@ STACK = 4 << 20
 def handed() -> socket.socket:
     """The socket of this service's unit."""
     if os.environ.get("LISTEN_FDS") != "1":
-        raise SystemExit("rooms-service: no socket of systemd's: its unit starts this")
+        raise SystemExit("no socket of systemd's: its unit starts this")
     os.set_inheritable(_FIRST, False)
     return socket.socket(fileno=_FIRST)
 

@@ -9,14 +9,6 @@ can_cut_people 'who joins and leaves, cut off' || return
 mkdir TERM KILL
 [ "$(id -u)" != 0 ] || chmod 755 "$work" .
 
-# Of a copy, while the server waits.
-seen() { # SUBCOMMAND
-  rm -rf look
-  mkdir look
-  cp office/F* look/
-  "$rooms" "$1" look/F 2>&1
-}
-
 # Passwords are those of before, but for one user's.
 passwords_are_whole() { # NAME USER
   grep -v "^$2:" "$passwords" >got
@@ -24,11 +16,6 @@ passwords_are_whole() { # NAME USER
   same "$1: passwords of the others" got wanted
   holds "$1: each line is whole" \
     [ "$(grep -cvE '^[a-z]+:(\{PLAIN\}p|\$2y\$10\$.{53})$' "$passwords")" = 0 ]
-}
-members_are() { # NAME PAIR ..
-  seen groups-out >got
-  printf '%s\n' group,user "${@:2}" >wanted
-  same "$1" got wanted
 }
 somebody_joins() {
   echo secret >typed

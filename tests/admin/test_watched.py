@@ -107,8 +107,8 @@ class Watched(unittest.TestCase):
             self.assertIn("systemctl status", watched.see_answer(room)[0][1])
             open(server.left_at_rest(room), "w").close()
             self.assertEqual(watched.see_answer(room), [
-                (2, "rooms@office was stopped while groups were changed or it was copied, and that "
-                 "was cut off: rooms-admin groups --after --room office")])
+                (2, "rooms@office was stopped by a verb that was cut off: rooms-admin groups "
+                 "--after --room office")])
 
     def test_who_is_mailed(self) -> None:
         with tempfile.TemporaryDirectory() as home:

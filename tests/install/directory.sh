@@ -337,6 +337,27 @@ fi
 wait "$asker"
 holds "a directory that hangs is 503 or memory: $(cat hanging)" grep -qxE '503|200' hanging
 holds 'a directory that hangs' awaits "$patience" answers 503 nobody:x /doc/f
+# More checks at once than its unit has tasks for, while it hangs: what they all take is counted.
+many=()
+for number in {1..300}; do
+  curl -s -o /dev/null -m 30 -H "$(key_of_nginx)" -u "nobody:$number" \
+    "http://127.0.0.1:$apache/password/rooms" &
+  many+=("$!")
+done
+for turn in {1..15}; do
+  for process in "$httpd" $(<"/proc/$httpd/task/$httpd/children"); do
+    cat "/proc/$process/status" 2>/dev/null
+  done | awk '/^Threads/ { tasks += $2 } /^RssAnon/ { memory += $2 }
+    END { print tasks, int(memory / 1024) }'
+  sleep 0.2
+done >counted
+wait "${many[@]}"
+told=$(sort -n counted | tail -n 1)
+holds "no more than 256 tasks and 512 MB: $told" awk '{
+  exit !($1 > 150 && $1 <= 256 && $2 > 0 && $2 <= 512) }' <<<"$told"
+kill -CONT "$slapd"
+holds 'and it goes on' awaits "$patience" answers 200 carol:carol-word /me
+kill -STOP "$slapd"
 stop_directory
 holds 'a directory that is down' awaits "$patience" answers 503 nobody:y /doc/f
 holds 'also for whom it knew' awaits 60 answers 503 alice:alice-word /doc/f

@@ -55,6 +55,16 @@ does 'who runs' 'for unit in earlier nights; do
 printf '%s\n' 'rooms-earlier 0000000000000000' 'rooms-night 0000000000000004' \
   'rooms-night 0000000000000000' >wanted
 same 'as whom, and with what right' "$work/out" wanted
+# Who opens them is asked for more than it may do, for ten seconds.
+cp "$here/install/loaded.py" "$machine/usr/local/lib/"
+does 'six nights' 'for n in 1 2 3 4 5; do systemctl start rooms-nightly@office; sleep 1; done'
+does 'a load' \
+  'python3 -IB /usr/local/lib/loaded.py 10 $(basename -a /var/backups/rooms/office/2*)'
+told=$(cat "$work/out")
+holds "no more than 96 tasks, 1,536 MB, four nights: $told" awk '{
+  exit !($1 > 40 && $1 <= 96 && $3 > 0 && $3 <= 1536 && $5 == 4 && $7 > 20 && $9 > 0 && $11 > 0)
+}' <<<"$told"
+until_inside 'and it goes on' "[ \"\$($web $bob $at/earlier/$night/doc/letter)\" = 200 ]"
 # Each is killed, and comes again.
 for unit in earlier nights; do
   does "rooms-$unit is killed" "systemctl kill -s KILL rooms-$unit.service"

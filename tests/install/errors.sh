@@ -37,8 +37,11 @@ awaits_nobody() {
 
 printf 'alice:{PLAIN}a\n' >rooms.htpasswd
 open_room F
+head -c 2000000 /dev/zero >large
 set_list F / dacl list:a "A:fd:alice:$ALL"
 start_room F 1000 || return
+admin setup
+sets office DRIVE yes
 start_front 'pages of errors' || return
 ask 'the room answers' 200 '[]' alice:a /folder/
 for target in / /folder/ /index.html /nothing; do
@@ -84,6 +87,9 @@ shows_each 'no room' 502 'The room doesn’t answer at the moment' \
   'Der Raum antwortet im Moment nicht' 'La salle ne répond pas pour le moment' alice:a /folder/
 shows 'no room for a document' 502 'The room doesn’t answer at the moment' alice:a /doc/f -X PUT \
   --data-binary x
+shows 'no door for one in place' 502 'The room doesn’t answer at the moment' alice:a /drive/f
+shows 'nor for a large one' 502 'The room doesn’t answer at the moment' alice:a /drive/f -X PUT \
+  --data-binary "@$PWD/large"
 
 # Passwords that nobody checks.
 sed -i '/^upstream rooms_passwords/ s#unix:[^;]*#unix:/nowhere/passwords.sock#' sites-enabled/rooms

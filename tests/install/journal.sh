@@ -1,5 +1,5 @@
-# What the journal has of rooms-admin: a line for each run that changes something, with who asked;
-# and that a log which isn't there or hangs stops nothing.
+# What the journal has of rooms-admin: a line for each run that changes something, with who asked,
+# and one with its status; and that a log which isn't there or hangs stops nothing.
 
 if [ ! -x /usr/bin/python3 ]; then
   skip 'the journal' '/usr/bin/python3 is missing'
@@ -23,12 +23,15 @@ asks() { # WORD ..
   status=$?
 }
 heard=1
-said() { # NAME TEXT: all that was heard since, but for the number of the process
-  local turn
-  for turn in {1..50}; do [ "$(wc -l <heard)" -le "$heard" ] || break; sleep 0.05; done
-  tail -n "+$((heard + 1))" heard | sed 's/\[[0-9]*\]/[N]/' >got
+said() { # NAME TEXT [STATUS]: all that was heard since, but for the number of the process
+  local turn who verb
+  for turn in {1..50}; do [ "$(wc -l <heard)" -le "$((heard + 1))" ] || break; sleep 0.05; done
+  tail -n "+$((heard + 1))" heard >lines
+  holds "$1: one process" [ "$(grep -o '\[[0-9]*\]' lines | sort -u | wc -l)" = 1 ]
+  sed 's/\[[0-9]*\]/[N]/' lines >got
   heard=$(wc -l <heard)
-  echo "<85>rooms-admin[N]: $2" >wanted
+  read -r who _ _ verb _ <<<"$2"
+  printf '<85>rooms-admin[N]: %s\n' "$2" "$who asked for $verb: status ${3-0}" >wanted
   same "$1" got wanted
 }
 asks set --destdir "$PWD/machine" KEEP=2
@@ -49,7 +52,7 @@ if [ "$(id -u)" = 0 ]; then
 fi
 asks set --destdir "$PWD/machine" $'KEEP=5\n<85>rooms-admin: bob'
 said 'one line for each' \
-  "$me asks for: set --destdir $PWD/machine 'KEEP=5\\n<85>rooms-admin: bob'"
+  "$me asks for: set --destdir $PWD/machine 'KEEP=5\\n<85>rooms-admin: bob'" 2
 asks set --destdir "$PWD/machine" --dry-run KEEP=6
 asks rooms
 asks set --help
@@ -59,9 +62,9 @@ asks user add bob --dry-run --room "$PWD/none.conf"
 ROOMS_UNIT=u asks until --room "$PWD/none.conf"
 asks user change bob --add staff --room "$PWD/none.conf"
 said 'what changes nothing has none' \
-  "$me asks for: user change bob --add staff --room $PWD/none.conf"
+  "$me asks for: user change bob --add staff --room $PWD/none.conf" 2
 asks members --room "$PWD/none.conf" "$PWD/listen.py"
-said 'a file does' "$me asks for: members --room $PWD/none.conf $PWD/listen.py"
+said 'a file does' "$me asks for: members --room $PWD/none.conf $PWD/listen.py" 2
 
 # A log that nobody reads any more.
 rm log

@@ -54,7 +54,8 @@ for file in usr/bin/rooms usr/bin/rooms-import usr/bin/rooms-export usr/sbin/roo
   $docs/copyright $units/rooms-door@.service usr/share/rooms/rooms_services/door/__main__.py \
   usr/share/rooms/door.conf.in usr/share/rooms/proxy.conf.in usr/share/rooms/earlier.conf.in \
   usr/share/rooms/proxied.conf.in usr/share/rooms/scgi.conf.in \
-  $units/rooms-wait@.service $units/rooms-wait@.socket usr/share/rooms/rooms_services/wait.py \
+  $units/rooms-door@.socket $units/rooms-wait@.service $units/rooms-wait@.socket \
+  usr/share/rooms/rooms_services/wait.py \
   $units/rooms-earlier.service $units/rooms-earlier.socket $units/rooms-nights.service \
   $units/rooms-nights.socket usr/share/rooms/rooms_services/earlier/judge.py; do
   holds "$file is in it" [ -s "files/$file" ]

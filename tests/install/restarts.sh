@@ -28,14 +28,21 @@ nobody_is_lost() { # NAME COMMAND [TARGET]
   asked_while "$@"
   holds "$1: $(cat numbers "$work/out")" \
     grep -Eq '^[0-9]{2,} asked, 0 lost, 0 twice, 0 missing, ' numbers
-  holds "$1: it went well" eval '! grep -qx failed "$work/out"'
+  holds "$1: it went well: $(cat "$work/out")" eval '! grep -qx failed "$work/out"'
 }
 nobody_is_lost 'a restart' 'systemctl restart rooms@office'
 nobody_is_lost 'three of them' 'for n in 1 2 3; do systemctl restart rooms@office; done'
-nobody_is_lost 'somebody joins a group' 'rooms-admin user add bob --groups staff <<<b'
+nobody_is_lost 'somebody joins a group' 'rooms-admin user add bob --new --groups staff <<<b'
 nobody_is_lost 'somebody leaves' 'rooms-admin user remove bob'
-# (An upgrade starts the door anew as well.)
-nobody_is_lost 'an upgrade' "dpkg -i rooms.deb && systemctl restart 'rooms@*'" '/can/?'
+# A list by root, and a backup in the room's place: what was added since isn't in that.
+nobody_is_lost 'a list' "printf '%s\n' list:a A::bob:r | rooms-admin list set /load"
+does 'a backup' 'systemctl start rooms-nightly@office'
+asked_while 'a restore' 'rooms-admin restore --start latest'
+holds "a restore: $(cat numbers "$work/out")" grep -Eq '^[0-9]{2,} asked, 0 lost, ' numbers
+holds 'a restore: it went well' eval '! grep -qx failed "$work/out"'
+nobody_is_lost 'a door' 'for n in 1 2 3; do systemctl restart rooms-door@office; done'
+# An upgrade starts the door anew as well.
+nobody_is_lost 'an upgrade' "dpkg -i rooms.deb && systemctl restart 'rooms@*'"
 # One that is killed takes with it whom it had accepted, and nothing is sent again.
 asked_while 'a kill' 'systemctl kill -s KILL rooms@office'
 holds "a kill: $(cat numbers)" grep -Eq '^[0-9]{2,} asked, [0-9]{1,3} lost, 0 twice, 0 missing, ' \
@@ -50,7 +57,7 @@ takes() { # NAME STATUS MOST-SECONDS
 }
 does 'it is stopped' 'systemctl stop rooms@office'
 takes 'a room that is stopped' 502 2
-for unit in rooms-door@office rooms-wait@office.socket; do
+for unit in rooms-door@office rooms-door@office.socket rooms-wait@office.socket; do
   shows "$unit" "$unit" ActiveState inactive
 done
 does 'it is started' 'systemctl start rooms@office'

@@ -44,14 +44,22 @@ does 'who reads what' 'for user in nobody www-data rooms rooms-passwords rooms-m
   done; done; rm /etc/rooms/passwords.key'
 printf '%s\n' 'www-data rooms.htpasswd' 'www-data people.json' 'rooms office.rooms' >wanted
 same 'each its own' "$work/out" wanted
+# A room's socket, by the name that others know and by the one that its server gave it.
+does 'who gets to a room' 'for place in rooms rooms-server; do
+  for user in root www-data rooms nobody; do
+    ! setpriv --reuid=$user --regid=$(id -g $user) --clear-groups curl -s -o /dev/null \
+      --unix-socket /run/$place/office/socket "http://localhost/can/?" || echo $place $user
+  done; done'
+printf '%s\n' 'rooms root' 'rooms www-data' 'rooms-server root' 'rooms-server rooms' >wanted
+same 'root, nginx, and the user of servers at their own' "$work/out" wanted
 # The door: nginx alone gets to it, and it gets to rooms and to nothing else.
 does 'what it answers' 'curl -s -u alice:a http://127.0.0.1/door/find/?x'
 holds 'as the room would' \
   grep -qxF '{"all":true,"at":"/","found":[],"unlisted":[]}' "$work/out"
 does 'the folder for its socket' \
-  'cd /run/rooms-door && stat -c "%U %G %a" office office/socket'
-printf '%s\n' 'rooms-door www-data 710' 'rooms-door www-data 660' >wanted
-same 'is for it and nginx' "$work/out" wanted
+  'cd /run/rooms-door && stat -c "%U %G %a" office office/socket office/kept'
+printf '%s\n' 'root root 711' 'root www-data 660' 'rooms-door www-data 700' >wanted
+same 'is root'\''s, and the socket nginx'\''s' "$work/out" wanted
 does 'who gets to the door' 'for user in root www-data rooms nobody; do
   ! setpriv --reuid=$user --regid=$(id -g $user) --clear-groups curl -s -o /dev/null \
     --unix-socket /run/rooms-door/office/socket http://localhost/ || echo $user

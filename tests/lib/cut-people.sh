@@ -71,3 +71,15 @@ nothing_else() { # NAME
   [ "$(id -u)" != 0 ] ||
     holds "$1: nginx gets there" [ "$(stat -c %a "$web" "${web%/*}" | sort -u)" = 750 ]
 }
+# Of a copy, while the server waits.
+seen() { # SUBCOMMAND
+  rm -rf look
+  mkdir look
+  cp office/F* look/
+  "$rooms" "$1" look/F 2>&1
+}
+members_are() { # NAME PAIR ..
+  seen groups-out >got
+  printf '%s\n' group,user "${@:2}" >wanted
+  same "$1" got wanted
+}

@@ -259,7 +259,8 @@ class Waiting(Over):
         going = self.answering()
         self.assertEqual(self.leaves("6 rooms@office-two.service start waiting\n"
                                      "7 rooms@office.service stop running"), [
-            ("stop", "--no-block", "rooms-door@office", "rooms-wait@office.socket")])
+            ("stop", "--no-block", "rooms-door@office.socket", "rooms-door@office",
+             "rooms-wait@office.socket")])
         going.join(20)
         self.assertEqual(self.leads_to(), "")
 

@@ -40,7 +40,7 @@ modules.then(([lists, levels, effects]) => {
     '/inbox': ['alice manage', 'clerks remove', 'staff drop'],
     '/drafts': null,
   };
-  const pattern = /reset office.rooms (\S+) dacl <<END\n([^]*?)END\n/g;
+  const pattern = /list set (\/\S+) <<END\n([^]*?)END\n/g;
   const texts = Object.fromEntries(
     [...given.lists.matchAll(pattern)].map(([, path, text]) => [path, text]));
   equal('the lists of the page', Object.keys(texts).sort(), Object.keys(LEVELS).sort());

@@ -347,3 +347,19 @@ def tell(room: Room | None, failures: list[str]) -> None:
     name = room.unit if room else "rooms"
     mail.notify(room.mail if room else "",
                 f"{name} on {os.uname().nodename}: the nightly run failed", failures)
+
+
+def would(room: Room) -> int:
+    """What goes by KEEP once there is tonight's. Nothing is copied, since that holds the room."""
+    copying.find_backups(room)
+    date = time.strftime("%F.%H%M%S")
+    print(f"would: {room.file} is copied to {os.path.join(backups.folder(room), date)}")
+    before = backups.look(room)
+    jumps = backups.jump(before)
+    wrong = [*before.wrong, *([jumps] if jumps else [])]
+    for text in wrong:
+        say(f"no older backup is removed: {text}")
+    if room.keep.nights and not wrong:
+        for one in tidying.beyond(before.backups, room.keep, date):
+            print(f"would: {one.place} is removed")
+    return 1 if wrong else 0

@@ -212,6 +212,7 @@ class Restore:
             return
         self.guard = server.Guard(self.repair)
         if server.state(self.room) not in ("inactive", "failed"):
+            server.mark(self.room)
             server.stop(self.room)
 
     def repair(self) -> None:
@@ -220,14 +221,14 @@ class Restore:
             self.settle("this restore")
         except (Stop, OSError) as fault:
             say(str(fault))
-        server.start(self.room)
+        server.start_marked(self.room)
 
     def start_server(self) -> None:
         """Whatever happened, if this run has stopped it or was to start it."""
         if self.guard is None:
             return
         server.systemctl("reset-failed", self.room.unit)
-        server.start(self.room)
+        server.start_marked(self.room)
         self.guard.end()
         time.sleep(1)
         server.look_whether_it_stays(self.room)

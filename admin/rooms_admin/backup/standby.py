@@ -1,6 +1,7 @@
 """The copy for another machine: made while the server runs, verified, in one file, and sent."""
 import os
 import shutil
+import time
 from contextlib import ExitStack
 
 from ..cli import report
@@ -125,3 +126,16 @@ def make(room: Room) -> None:
             report.ignore_signals()
             shutil.rmtree(part, ignore_errors=True)
             hours.remove_left(room)
+
+
+def would(room: Room) -> None:
+    """Nothing is copied, since that holds the room."""
+    if server.settled(room) == "inactive":
+        say(f"{room.unit} isn't running: {LAST}")
+        return
+    place = os.path.join(backups.folder(room), "standby", room.base)
+    print(f"would: {room.file}, {server.size_of(room.file) >> 20} MB, is copied to {place}")
+    if room.standby:
+        print(f"would: {room.standby} gets it")
+    if room.hours and hours.is_due(hours.found(room).backups, time.time()):
+        print(f"would: an hourly copy is kept in {hours.place(room)}")

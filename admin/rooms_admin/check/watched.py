@@ -75,8 +75,8 @@ def see_answer(room: Room) -> list[Finding]:
         return [(OK, "answers")]
     state = server.state(room) or "no unit"
     if state == "inactive" and os.path.exists(server.left_at_rest(room)):
-        return [(CRITICAL, f"{room.unit} was stopped while groups were changed or it was copied, "
-                 f"and that was cut off: rooms-admin groups --after --room {room.name}")]
+        return [(CRITICAL, f"{room.unit} was stopped by a verb that was cut off: "
+                 f"rooms-admin groups --after --room {room.name}")]
     return [(CRITICAL, f"{room.unit} doesn't answer ({state}): systemctl status {room.unit}")]
 
 

@@ -1,5 +1,6 @@
-"""A line in the system's log, for whoever asks later who has changed what. It is written before a
-verb begins, so a run that is killed has one too; and nobody waits for a log that hangs."""
+"""Two lines in the system's log, for whoever asks later who has changed what: one before a verb
+begins, which a run that is killed has too, and one with its status. Nobody waits for a log that
+hangs."""
 import contextlib
 import os
 import pwd
@@ -28,8 +29,16 @@ def _asker() -> str:
         return str(os.getuid())
 
 
-def tell(verb: str, words: Sequence[str]) -> None:
-    text = report.line(f"{_asker()} asks for: {shlex.join([verb, *words])}")[:_LONGEST]
+def begins(verb: str, words: Sequence[str]) -> None:
+    _tell(f"{_asker()} asks for: {shlex.join([verb, *words])}")
+
+
+def ends(verb: str, status: int) -> None:
+    _tell(f"{_asker()} asked for {verb}: status {status}")
+
+
+def _tell(what: str) -> None:
+    text = report.line(what)[:_LONGEST]
     with contextlib.suppress(OSError), socket.socket(socket.AF_UNIX, socket.SOCK_DGRAM) as log:
         log.settimeout(_SECONDS)
         log.connect(_PLACE)

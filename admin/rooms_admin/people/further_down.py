@@ -59,6 +59,13 @@ def write(room: Room, lines: Iterable[str], at: float) -> None:
     published.put_folder(room, NAME, files)
 
 
+def would(room: Room, lines: Iterable[str], _at: float) -> None:
+    found, managers = places(lines)
+    given = sum(len(one.places) for one in found.values())
+    print(f"would: new {published.FOLDER}/{published.name_of(room)}/{NAME}: users {len(found)}, "
+          f"places {given}, managers {len(managers)}")
+
+
 def nightly(room: Room, path: str) -> list[str]:
     """From the review that the nightly run has written beside its backup."""
     if not published.has_name(room):

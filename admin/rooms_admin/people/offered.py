@@ -36,6 +36,19 @@ def write(room: Room, what: Known | None) -> list[str]:
     return failures
 
 
+def would(room: Room, what: Known | None) -> list[str]:
+    """What is wrong with the file as it would be."""
+    failures: list[str] = []
+    place = f"{published.FOLDER}/{published.name_of(room)}/{FILE}"
+    if what is None:
+        print(f"would: {place} is removed" if os.path.lexists(place) else "nothing to change")
+        return failures
+    made = json.loads(_text(room, what, failures))
+    print(f"would: new {place}: users {len(made['users'])}, groups {len(made['groups'])}, "
+          f"full names {len(made['names'])}")
+    return failures
+
+
 def _text(room: Room, what: Known, failures: list[str]) -> bytes:
     users = {user for _, user in what.members}.union(
         *(with_password(file) for file in passwords.password_files(published.name_of(room))))

@@ -34,7 +34,8 @@ def stop(room: Room) -> None:
 
 def stop_beside(name: str) -> None:
     """What goes on while the server of a room is started anew."""
-    systemctl("stop", "--no-block", f"rooms-door@{name}", f"rooms-wait@{name}.socket")
+    systemctl("stop", "--no-block", f"rooms-door@{name}.socket", f"rooms-door@{name}",
+              f"rooms-wait@{name}.socket")
 
 
 def start(room: Room) -> None:
@@ -146,26 +147,35 @@ def at_rest(room: Room) -> Iterator[None]:
         yield
 
 
+def mark(room: Room) -> None:
+    """Before it is stopped by whoever starts it again: who asks it waits."""
+    place = left_at_rest(room)
+    try:
+        with open(place, "w", encoding="ascii"):
+            pass
+    except OSError as fault:
+        raise Stop(f"no mark: {place} can't be written, so {room.unit} was not stopped: "
+                   f"{fault.strerror}") from fault
+
+
 @contextmanager
 def stopped(room: Room) -> Iterator[None]:
     """The same of one that needs not run, as while it is started over and over."""
-    mark = left_at_rest(room)
-    try:
-        with open(mark, "w", encoding="ascii"):
-            pass
-    except OSError as fault:
-        raise Stop(f"no mark: {mark} can't be written, so {room.unit} was not stopped: "
-                   f"{fault.strerror}") from fault
+    mark(room)
     with guarded(lambda: start_again(room)):
         stop(room)
         yield
 
 
-def start_again(room: Room) -> None:
-    """A server that rested."""
+def start_marked(room: Room) -> None:
     start(room)
     if os.path.exists(left_at_rest(room)):
         os.unlink(left_at_rest(room))
+
+
+def start_again(room: Room) -> None:
+    """A server that rested."""
+    start_marked(room)
     look_whether_it_stays(room)
 
 

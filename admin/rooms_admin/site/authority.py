@@ -53,9 +53,14 @@ def _rules(names_below: list[str]) -> str:
 
 
 class Authority:
-    def __init__(self, folder: str, about: str, names_below: list[str], private: str) -> None:
+    """In a dry run all is made in a folder of the run's own, and nothing gets to its place."""
+
+    def __init__(self, folder: str, about: str, names_below: list[str], private: str,
+                 dry: bool) -> None:
         self.folder = folder
         self.private = private
+        self.dry = dry
+        self.made: dict[str, str] = {}
         self.pem, self.key = f"{folder}/authority.pem", f"{folder}/authority.key"
         has = [os.path.exists(ROOT + one) for one in (self.pem, self.key)]
         if has == [True, False]:
@@ -65,18 +70,31 @@ class Authority:
         if has == [False, False]:
             self._make(about, names_below)
 
+    def at(self, path: str) -> str:
+        """Where a file is that has this path, or would have it."""
+        return self.made.get(path, ROOT + path)
+
+    def _put(self, source: str, target: str, mode: int) -> None:
+        if self.dry:
+            self.made[target] = source
+        else:
+            _private_folder(os.path.dirname(target))
+            _put(source, target, mode)
+
+    def _tell(self, text: str) -> None:
+        print(f"would: {text}" if self.dry else text)
+
     def _make(self, about: str, names_below: list[str]) -> None:
-        _private_folder(self.folder)
         rules = f"{self.private}/authority"
         with open(rules, "w", encoding="ascii") as file:
             file.write(_rules(names_below))
         _openssl(["req", "-x509", *_CURVE, "-days", "3650", "-subj", f"/CN={about}", "-config",
                   rules, "-keyout", f"{self.private}/key", "-out", f"{self.private}/pem"])
         # The key comes first: an authority without one is no use, and says so.
-        _put(f"{self.private}/key", self.key, 0o600)
-        _put(f"{self.private}/pem", self.pem, 0o644)
+        self._put(f"{self.private}/key", self.key, 0o600)
+        self._put(f"{self.private}/pem", self.pem, 0o644)
         of = ", for these names and those below them: " + ", ".join(names_below)
-        print(f"authority {self.pem}{of if names_below else ''}")
+        self._tell(f"authority {self.pem}{of if names_below else ''}")
 
     def certify(self, hosts: list[str], use: str, days: int, key: str, pem: str) -> None:
         """A certificate by this authority, which has to hold for each host before it is used."""
@@ -85,28 +103,28 @@ class Authority:
             made = f"{self.private}/new.key"
             _openssl(["genpkey", "-algorithm", "EC", "-pkeyopt", "ec_paramgen_curve:P-256",
                       "-out", made])
-            _private_folder(os.path.dirname(key))
-            _put(made, key, 0o600)
-        _openssl(["req", "-new", "-key", ROOT + key, "-subj", f"/CN={hosts[0]}", "-out", asked])
+            self._put(made, key, 0o600)
+        _openssl(["req", "-new", "-key", self.at(key), "-subj", f"/CN={hosts[0]}", "-out", asked])
         lines = [*_ENDING, f"extendedKeyUsage={use}"]
         if use == "serverAuth":
             lines.append("subjectAltName=" + ",".join(f"DNS:{one}" for one in hosts))
         with open(rules, "w", encoding="ascii") as file:
             file.write("".join(line + "\n" for line in lines))
         _openssl(["x509", "-req", "-in", asked, "-days", str(days), "-set_serial",
-                  f"0x{os.urandom(15).hex()}", "-CA", ROOT + self.pem, "-CAkey", ROOT + self.key,
-                  "-extfile", rules, "-out", fresh])
+                  f"0x{os.urandom(15).hex()}", "-CA", self.at(self.pem), "-CAkey",
+                  self.at(self.key), "-extfile", rules, "-out", fresh])
         # One name outside what the authority may certify has all of them refused.
         named = ", ".join(hosts)
         for host in hosts if use == "serverAuth" else []:
             try:
-                _openssl(["verify", "-CAfile", ROOT + self.pem, "-verify_hostname", host, fresh])
+                _openssl(["verify", "-CAfile", self.at(self.pem), "-verify_hostname", host,
+                          fresh])
             except Stop as stop:
                 raise Refused(f"not for {named}: {self.pem} can't certify it ({stop}); nothing is "
                               "changed") from stop
-        _put(fresh, pem, 0o644)
+        self._put(fresh, pem, 0o644)
         ends = _openssl(["x509", "-in", fresh, "-noout", "-enddate"]).partition("=")[2]
-        print(f"certificate {pem} for {', '.join(hosts)}, until {ends}; its key is {key}")
+        self._tell(f"certificate {pem} for {', '.join(hosts)}, until {ends}; its key is {key}")
 
 
 def _look_at_issuer() -> None:
@@ -133,10 +151,10 @@ def look_at_domain(domain: str, hosts: list[str]) -> None:
             raise Refused(f"bad arguments: {host} isn't in the domain {domain}")
 
 
-def for_site(hosts: list[str], domain: str, private: str) -> None:
+def for_site(hosts: list[str], domain: str, private: str, dry: bool) -> None:
     _look_at_issuer()
-    authority = Authority(AUTHORITY, _OFFICE, [domain] if domain else hosts, private)
-    said = _openssl(["x509", "-in", ROOT + authority.pem, "-noout", "-text"])
+    authority = Authority(AUTHORITY, _OFFICE, [domain] if domain else hosts, private, dry)
+    said = _openssl(["x509", "-in", authority.at(authority.pem), "-noout", "-text"])
     if domain and f"DNS:{domain}" not in said.split():
         raise Refused(f"not for {domain}: {authority.pem} is for other names: move {AUTHORITY} "
                       "away, and have browsers trust a new one")
@@ -144,6 +162,8 @@ def for_site(hosts: list[str], domain: str, private: str) -> None:
         say(f"{authority.pem}, of an earlier version, can certify any address of a network and of "
             f"mail too: move {AUTHORITY} away, and have browsers trust a new one instead")
     authority.certify(hosts, "serverAuth", 365, SITE_KEY, SITE)
+    if dry:
+        return
     print(f"every browser has to trust {authority.pem}; keep {authority.key} on another medium")
     reload = "nginx -t && systemctl reload nginx"
     if certificates.site_certificates() == [SITE]:
@@ -152,12 +172,14 @@ def for_site(hosts: list[str], domain: str, private: str) -> None:
         print(f"to use it: rooms-admin setup --tls {SITE} {SITE_KEY} && {reload}")
 
 
-def for_machine(host: str, private: str) -> None:
-    authority = Authority(MACHINES, "Authority of the machines with rooms", [], private)
+def for_machine(host: str, private: str, dry: bool) -> None:
+    authority = Authority(MACHINES, "Authority of the machines with rooms", [], private, dry)
     front = f"{MACHINES}/front"
     if not os.path.exists(f"{ROOT}{front}.pem") or certificates.see_certificate(f"{front}.pem")[0]:
         authority.certify(["rooms-front"], "clientAuth", 3650, f"{front}.key", f"{front}.pem")
     place = f"{MACHINES}/{host}"
     authority.certify([host], "serverAuth", 3650, f"{place}.key", f"{place}.pem")
+    if dry:
+        return
     print(f"bring to {host}, into {MACHINES}: {shlex.quote(authority.pem)}, {place}.pem as "
           f"machine.pem, {place}.key as machine.key; keep {authority.key} on another medium")

@@ -28,11 +28,14 @@ from ..cli.report import Refused
 
 def arguments(parser: words.Parser) -> None:
     words.room(parser)
+    words.dry_run(parser, "where tonight's would be and which go by KEEP, without a copy")
 
 
 def run(given: argparse.Namespace) -> int:
     os.umask(0o077)
     os.chdir("/")
+    if given.dry_run:
+        return night.would(settings.room(given.room))
     room = None
     try:
         room = settings.room(given.room)

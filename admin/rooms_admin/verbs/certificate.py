@@ -19,6 +19,7 @@ def arguments(parser: words.Parser) -> None:
     words.option(parser, "--domain", "DOMAIN", "let an authority that is made certify all names of "
                  "this domain")
     words.flag(parser, "--machine", "for a machine with rooms behind this one's front end")
+    words.dry_run(parser, "what would be made, once it was tried")
 
 
 def run(given: argparse.Namespace) -> int:
@@ -38,7 +39,7 @@ def run(given: argparse.Namespace) -> int:
     with locks.lock("machine", 10), tempfile.TemporaryDirectory(prefix="rooms-certificate.",
                                                                 dir=locks.FOLDER) as private:
         if given.machine:
-            authority.for_machine(hosts[0], private)
+            authority.for_machine(hosts[0], private, given.dry_run)
         else:
-            authority.for_site(hosts, given.domain, private)
+            authority.for_site(hosts, given.domain, private, given.dry_run)
     return 0

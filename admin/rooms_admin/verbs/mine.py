@@ -13,6 +13,7 @@ from ..cli.report import Refused
 
 def arguments(parser: words.Parser) -> None:
     words.room(parser)
+    words.dry_run(parser, "how much would be shown")
 
 
 def run(given: argparse.Namespace) -> int:
@@ -27,5 +28,6 @@ def run(given: argparse.Namespace) -> int:
     beside = os.path.join(folder, texts.REVIEW)
     at = os.stat(beside if os.path.exists(beside) else last).st_mtime
     with locks.lock(room.unit, 60), texts.beside(room, folder, texts.REVIEW) as source:
-        further_down.write(room, texts.of_csv(source), at)
+        (further_down.would if given.dry_run else further_down.write)(
+            room, texts.of_csv(source), at)
     return 0

@@ -12,6 +12,7 @@ from ..cli.report import say
 
 def arguments(parser: words.Parser) -> None:
     words.room(parser)
+    words.dry_run(parser, "what would be shown")
 
 
 def run(given: argparse.Namespace) -> int:
@@ -20,7 +21,8 @@ def run(given: argparse.Namespace) -> int:
     room = settings.room(given.room)
     published.name_of(room)
     with locks.lock(room.unit, 60):
-        failures = offered.write(room, known.newest(room) if room.people != "no" else None)
+        what = known.newest(room) if room.people != "no" else None
+        failures = (offered.would if given.dry_run else offered.write)(room, what)
     for failure in failures:
         say(failure)
     return 1 if failures else 0

@@ -16,6 +16,7 @@ from ..cli.report import Refused
 
 def arguments(parser: words.Parser) -> None:
     words.room(parser)
+    words.dry_run(parser, "what would be copied and sent, without a copy")
 
 
 def run(given: argparse.Namespace) -> int:
@@ -25,5 +26,8 @@ def run(given: argparse.Namespace) -> int:
     copying.find_backups(room)
     if room.standby and not shutil.which("rsync"):
         raise Refused(f"no rsync: STANDBY in {room.conf} needs it: apt-get install rsync")
-    standby.make(room)
+    if given.dry_run:
+        standby.would(room)
+    else:
+        standby.make(room)
     return 0

@@ -1,4 +1,4 @@
-"""The door beside a room: python3 -IB rooms_services/door/__main__.py --room SOCKET --listen SOCKET
+"""The door beside a room: python3 -IB rooms_services/door/__main__.py --room SOCKET ..
 
 It takes requests of users from nginx, which says who they are, and sends the room's own requests in
 their names. It has no right, no password and no copy of a document. It goes on until it is ended.
@@ -6,7 +6,6 @@ their names. It has no right, no password and no copy of a document. It goes on 
 Status: 2 refused, 3 the socket can't be made."""
 import argparse
 import os
-import signal
 import sys
 from typing import NoReturn
 
@@ -33,8 +32,11 @@ def _given() -> argparse.Namespace:
     words = _Words(prog="rooms-door", description=__doc__, allow_abbrev=False,
                    formatter_class=argparse.RawDescriptionHelpFormatter)
     words.add_argument("--room", required=True, help="the socket of the room")
-    words.add_argument("--listen", required=True,
-                       help="the socket at which nginx asks; whoever reaches it can be any user")
+    words.add_argument("--listen", default="",
+                       help="the socket at which nginx asks; whoever reaches it can be any user. "
+                       "Without it systemd hands one over")
+    words.add_argument("--kept", default="", help="a folder for what outlasts it, such as locks; "
+                       "that of its socket without it")
     words.add_argument("--would", default="", help="the socket at which rooms would is asked")
     words.add_argument("--drive", choices=("yes", ""), default="",
                        help="yes: documents are edited in place, by WebDAV below /drive/")
@@ -60,17 +62,17 @@ def _given() -> argparse.Namespace:
 def main() -> int:
     given = _given()
     try:
-        mark = os.path.join(os.path.dirname(given.listen), "dates")
+        kept = given.kept or os.path.dirname(given.listen)
         texts = Texts(given.called, given.texts, Reading(given.extract)) \
             if given.search == "yes" else None
-        keeper = begun(given.changes, given.dates, given.told, given.days, mark, bool(texts))
-        signal.signal(signal.SIGTERM, signal.default_int_handler)
-        serve(given.room, given.listen, given.would, given.drive == "yes", given.full, keeper,
-              texts)
+        keeper = begun(given.changes, given.dates, given.told, given.days,
+                       os.path.join(kept, "dates"), bool(texts))
+        locks = os.path.join(kept, "locks") if given.drive == "yes" else ""
+        serve(given.room, given.listen, given.would, locks, given.full, keeper, texts)
     except KeyboardInterrupt:
         pass
     except OSError as fault:
-        print(f"rooms-door: {given.listen}: {fault.strerror}", file=sys.stderr)
+        print(f"rooms-door: {given.listen or 'its socket'}: {fault.strerror}", file=sys.stderr)
         return 3
     return 0
 

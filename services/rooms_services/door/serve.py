@@ -1,17 +1,24 @@
 """HTTP: messages from nginx, which has collected each of them, to what they ask for, and back.
 
 A connection has a thread. nginx collects whole requests and takes whole replies at once, however
-slow its callers are, so threads wait for the room and for their turn alone."""
+slow its callers are, so threads wait for the room and for their turn alone. A door that is to end
+takes nobody any more and answers whom it has taken; who comes then waits at the socket, which
+systemd keeps for the next one."""
 import http.server
 import os
 import re
+import signal
+import socket
 import socketserver
 import sys
 import threading
+import time
 import traceback
 from urllib.parse import urlsplit
 
-from ..listening import STACK
+from rooms_admin.room import waits
+
+from .. import listening
 from ..room.answers import TEXT, Answer, Stop, reason
 from ..room.room import LARGEST, USER, Room
 from .routes import LONG_ROUTES, PREFIX, Asked, route_of
@@ -64,6 +71,19 @@ class Handler(http.server.BaseHTTPRequestHandler):
     protocol_version = "HTTP/1.1"
     timeout = SECONDS
     door: Door
+    server: "Server"
+
+    def handle(self) -> None:
+        """A connection for each request, as nginx has them, or for one after the other."""
+        self.close_connection = True
+        self.handle_one_request()
+        while not self.close_connection:
+            self.server.rests(self.connection)
+            self.handle_one_request()
+
+    def parse_request(self) -> bool:
+        self.server.goes_on(self.connection)
+        return super().parse_request()
 
     def address_string(self) -> str:
         return "nginx"
@@ -212,8 +232,38 @@ class Server(socketserver.ThreadingMixIn, socketserver.UnixStreamServer):
     request_queue_size = 256
 
     def __init__(self, place: str, handler: type[Handler]) -> None:
+        """At a socket of its own, or without a place at that of its unit."""
         self._free = threading.BoundedSemaphore(MOST)
-        super().__init__(place, handler)
+        self._mutex = threading.Lock()
+        self._resting: set[socket.socket] = set()
+        self._ends = False
+        super().__init__(place, handler, bind_and_activate=place != "")
+        if not place:
+            self.socket.close()
+            self.socket = listening.handed()
+
+    def rests(self, connection: socket.socket) -> None:
+        """Its requests are answered, and another may come."""
+        with self._mutex:
+            self._resting.add(connection)
+            if self._ends:
+                connection.shutdown(socket.SHUT_RD)
+
+    def goes_on(self, connection: socket.socket) -> None:
+        with self._mutex:
+            self._resting.discard(connection)
+
+    def finish(self, seconds: float) -> None:
+        """Whoever was accepted is answered, if that takes no longer."""
+        ends = time.monotonic() + seconds
+        with self._mutex:
+            self._ends = True
+            for one in self._resting:
+                one.shutdown(socket.SHUT_RD)
+        for _ in range(MOST):
+            if not self._free.acquire(timeout=max(0.0, ends - time.monotonic())):
+                print("it ends before all are answered", file=sys.stderr, flush=True)
+                return
 
     def process_request(self, request: object, client_address: object) -> None:
         self._free.acquire()
@@ -223,6 +273,7 @@ class Server(socketserver.ThreadingMixIn, socketserver.UnixStreamServer):
         try:
             super().process_request_thread(request, client_address)  # type: ignore[arg-type]
         finally:
+            self.goes_on(request)  # type: ignore[arg-type]
             self._free.release()
 
     def handle_error(self, request: object, client_address: object) -> None:
@@ -232,24 +283,27 @@ class Server(socketserver.ThreadingMixIn, socketserver.UnixStreamServer):
 
 
 def opened(place: str, door: Door) -> Server:
-    # The folder is this unit's own, so what is there was left by a door that was killed.
-    if os.path.lexists(place):
+    # What is there was left by a door that was killed.
+    if place and os.path.lexists(place):
         os.unlink(place)
-    threading.stack_size(STACK)
+    threading.stack_size(listening.STACK)
     return Server(place, type("Opened", (Handler,), {"door": door}))
 
 
-def serve(room: str, listen: str, would: str, has_drive: bool, full: str,
+def serve(room: str, listen: str, would: str, locks: str, full: str,
           keeper: Keeper | None, texts: Texts | None) -> None:
-    kept = os.path.join(os.path.dirname(listen), "locks")
-    drive = Drive(Kept(kept), full) if has_drive else None
+    """Without a file of locks there is no drive."""
+    drive = Drive(Kept(locks), full) if locks else None
     asked = Room(room, note=keeper.note if keeper else None)
     with opened(listen, Door(asked, Would(would), drive, full, keeper, texts)) as server:
         if keeper:
             threading.Thread(target=keeper.run, daemon=True).start()
-        print(f"listening {listen}", file=sys.stderr, flush=True)
+        # (Its thread alone accepts, and waits for another one that ends it.)
+        signal.signal(signal.SIGTERM, lambda *_: threading.Thread(target=server.shutdown).start())
+        print(f"listening {listen or 'at the socket of its unit'}", file=sys.stderr, flush=True)
         try:
-            server.serve_forever()
+            server.serve_forever(0.1)
+            server.finish(waits.LAST)
         finally:
             if keeper:
                 keeper.stop()

@@ -1,4 +1,4 @@
-"""What the door keeps in a file beside its socket, by SQLite: locks, and what it is in the middle
+"""What the door keeps in a file of its own, by SQLite: locks, and what it is in the middle
 of. It outlasts a door that is killed, and no restart of the machine."""
 import os
 import sqlite3
