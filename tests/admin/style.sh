@@ -10,7 +10,7 @@ printf '%s\n' '[mypy]' 'strict = True' "cache_dir = $PWD/mypy" '[mypy-ldap.*]' \
   'ignore_missing_imports = True' >mypy.ini
 if has mypy; then
   MYPYPATH=$repo/admin:$repo/services mypy --config-file mypy.ini "$repo/admin/rooms_admin" \
-    "$repo"/services/rooms_services/{scgi.py,port.py,wait.py,own_password} \
+    "$repo"/services/rooms_services/{apart.py,picture.py,scgi.py,port.py,wait.py,own_password} \
     "$here"/admin/test_{pure,backups,told,attacks,texts,limits}.py >"$work/out" 2>&1
   status=$?
   holds "mypy --strict: $(tail -n 5 "$work/out")" [ "$status" = 0 ]
@@ -25,7 +25,7 @@ else
 fi
 if has flake8; then
   flake8 --isolated --max-line-length 100 "$repo/admin/rooms_admin" "$repo/deploy/install" \
-    "$repo"/services/rooms_services/{scgi.py,port.py,wait.py,own_password} \
+    "$repo"/services/rooms_services/{apart.py,picture.py,scgi.py,port.py,wait.py,own_password} \
     "$repo"/deploy/rooms-{service,table} "$repo/admin/rooms-admin" \
     "$here"/admin/test_{pure,backups,told,attacks,texts,limits}.py >"$work/out" 2>&1
   status=$?

@@ -57,7 +57,9 @@ for file in usr/bin/rooms usr/bin/rooms-import usr/bin/rooms-export usr/sbin/roo
   $units/rooms-door@.socket $units/rooms-wait@.service $units/rooms-wait@.socket \
   usr/share/rooms/rooms_services/wait.py \
   $units/rooms-earlier.service $units/rooms-earlier.socket $units/rooms-nights.service \
-  $units/rooms-nights.socket usr/share/rooms/rooms_services/earlier/judge.py; do
+  $units/rooms-nights.socket usr/share/rooms/rooms_services/earlier/judge.py \
+  $units/rooms-picture.socket $units/rooms-picture@.service \
+  usr/share/rooms/rooms_services/apart.py usr/share/rooms/rooms_services/picture.py; do
   holds "$file is in it" [ -s "files/$file" ]
 done
 same 'the program is the one that was built' files/usr/bin/rooms "$rooms"

@@ -70,6 +70,7 @@ def main():
     for path in ("/run/rooms/office/socket", "/run/rooms/invoices/socket",
                  "/run/rooms-front/passwords.sock", "/run/rooms-own-password/socket",
                  "/run/rooms-nights/socket", "/run/rooms-earlier/socket",
+                 "/run/rooms-picture/socket",
                  "/run/dbus/system_bus_socket", "/run/systemd/private"):
         tries(f"ask {path}", lambda path=path: reaches(path))
     tries("ask 127.0.0.1:80", goes_out)

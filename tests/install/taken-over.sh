@@ -58,7 +58,7 @@ bounded() { # NAME UNIT TASKS MEGABYTES
 }
 probed 'in the place of a door' rooms-door@office \
   'write /var/tmp' 'write /var/lib/rooms-changes/office' 'ask /run/rooms/office/socket' \
-  'ask /run/rooms/invoices/socket'
+  'ask /run/rooms/invoices/socket' 'ask /run/rooms-picture/socket'
 probed 'in the place of a watch' rooms-full@office \
   'read /etc/rooms/office.conf' 'read /etc/nginx/nginx.conf' 'list /var/lib/rooms' \
   'list /var/log/nginx' 'write /run/rooms-full' 'write /var/tmp' \

@@ -1,12 +1,13 @@
-// A document looked at without a download: text, which is set as text, and images.
+// A document looked at without a download: text, which is set as text, images, and PDF.
 
 import * as api from '../net/api.js';
 import { texts } from '../language/language.js';
 import { button, element, nameText } from '../ui/dom.js';
-import { save } from './download.js';
+import { downloadOne, save } from './download.js';
+import { pagesOf } from './pages.js';
 import { readTagged } from '../net/door.js';
 import { noteTag } from '../net/given_out.js';
-import { showDialog, waitFor } from '../ui/messages.js';
+import { showDialog, tellFault, waitFor } from '../ui/messages.js';
 
 const IMAGES = {
   png: 'image/png', jpg: 'image/jpeg', jpeg: 'image/jpeg', gif: 'image/gif', webp: 'image/webp',
@@ -43,7 +44,7 @@ function textOf(bytes) {
 const endingOf = (name) => name.slice(name.lastIndexOf('.') + 1).toLowerCase();
 export const isPdf = (name) => endingOf(name) === 'pdf';
 
-// Returns whether the browser let it.
+// Returns whether the browser let it: it opens a tab only soon after a press.
 function showInTab(bytes, name) {
   const address = URL.createObjectURL(new File([bytes], name, { type: 'application/pdf' }));
   setTimeout(() => URL.revokeObjectURL(address), STAYS);
@@ -66,35 +67,67 @@ function contentOf(bytes, name) {
   return element('pre', { tabindex: '0', dir: 'auto', 'aria-label': name }, text);
 }
 
-// A browser opens a tab only soon after a press. Later it asks for another one.
-export async function openPdf(path) {
-  const read = await waitFor(readTagged('doc', path));
-  if (!showInTab(await read.blob.arrayBuffer(), api.nameOf(path))) await showPreview(path, read);
+const read = (path) => waitFor(readTagged('doc', path));
+
+async function openTab(path) {
+  const tagged = await read(path);
+  if (!showInTab(await tagged.blob.arrayBuffer(), api.nameOf(path))) await showBytes(path, tagged);
 }
 
-export const preview = async (path) => showPreview(path, await waitFor(readTagged('doc', path)));
+// A PDF, or where no pictures are made of it, a tab with it.
+export async function openPdf(path) {
+  const pages = await pagesOf(path);
+  if (pages === null) await openTab(path);
+  else await showPages(path, pages);
+}
 
-async function showPreview(path, { blob, tag }) {
+export async function preview(path) {
+  const pages = isPdf(api.nameOf(path)) ? await pagesOf(path) : null;
+  if (pages === null) await showBytes(path, await read(path));
+  else await showPages(path, pages);
+}
+
+const closing = (finish) =>
+  button(texts.acts.close, () => finish(null), { class: 'primary' });
+
+async function showBytes(path, { blob, tag }) {
   const name = api.nameOf(path);
   const bytes = await blob.arrayBuffer();
   const download = () => {
     save(blob, name);
     noteTag(path, tag);
   };
-  await showDialog(nameText(name), (finish) => [
-    element('div', { class: 'content' }, contentOf(bytes, name)),
-    element('div', { class: 'actions' },
-      button(texts.acts.download, download),
-      button(texts.acts.close, () => finish(null), { class: 'primary', autofocus: true })),
-  ], 'preview');
+  await showDialog(nameText(name), (finish) => {
+    const close = closing(finish);
+    close.setAttribute('autofocus', '');
+    return [element('div', { class: 'content' }, contentOf(bytes, name)),
+      element('div', { class: 'actions' }, button(texts.acts.download, download), close)];
+  }, 'preview');
+}
+
+// The arrow keys scroll in it at once.
+async function showPages(path, pages) {
+  const name = api.nameOf(path);
+  const content = element('div', { class: 'content', tabindex: '0', role: 'region',
+    'aria-label': name, autofocus: true }, pages.shown);
+  const act = (words, does) => button(words, () => does(path).catch(tellFault));
+  await showDialog(nameText(name), (finish) => {
+    queueMicrotask(() => pages.watch(content));
+    return [content, element('div', { class: 'actions' }, pages.larger,
+      act(texts.acts.download, downloadOne), act(texts.folder.openInTab, openTab),
+      closing(finish))];
+  }, 'of-pdf');
 }
 
 // Shows a document in 'box', as long as 'isCurrent()'.
 export async function showDocument(path, box, isCurrent) {
-  const bytes = await (await waitFor(api.read(path))).arrayBuffer();
+  const name = api.nameOf(path);
+  const pages = isPdf(name) ? await pagesOf(path) : null;
+  const shown = pages?.shown
+    ?? contentOf(await (await waitFor(api.read(path))).arrayBuffer(), name);
   if (!isCurrent()) return;
-  box.replaceChildren(element('div', { class: 'shown-document' },
-    contentOf(bytes, api.nameOf(path))));
+  box.replaceChildren(element('div', { class: 'shown-document' }, pages?.larger, shown));
+  pages?.watch(null);
   // A browser opens a tab after a press alone: that is one key.
   /** @type {any} */ (box.querySelector('.in-tab'))?.focus();
 }

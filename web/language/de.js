@@ -7,6 +7,7 @@ import { DE_FIND, DE_FOLDER, DE_MOVING, DE_UPLOAD } from './de_folder.js';
 import { DE_HELP } from './de_help.js';
 import { DE_ADVANCED, DE_RIGHTS, DE_WARNINGS } from './de_lists.js';
 import { DE_MOMENTS } from './de_moments.js';
+import { DE_PAGES } from './de_pages.js';
 import { DE_READY } from './de_ready.js';
 import { EVERYONE, OTHERS, SIGNED_IN, verb } from './de_people.js';
 import { formsOf } from './forms.js';
@@ -206,5 +207,5 @@ export const DE = {
   moments: DE_MOMENTS, help: DE_HELP,
   folder: DE_FOLDER, find: DE_FIND, moving: DE_MOVING, upload: DE_UPLOAD, rights: DE_RIGHTS,
   faults: DE_FAULTS, warnings: DE_WARNINGS, access: DE_ACCESS, outcome: DE_OUTCOME,
-  advanced: DE_ADVANCED, ready: DE_READY, earlier: DE_EARLIER,
+  advanced: DE_ADVANCED, ready: DE_READY, earlier: DE_EARLIER, pages: DE_PAGES,
 };

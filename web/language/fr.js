@@ -8,6 +8,7 @@ import { FR_FIND, FR_FOLDER, FR_MOVING, FR_UPLOAD } from './fr_folder.js';
 import { FR_HELP } from './fr_help.js';
 import { FR_ADVANCED, FR_RIGHTS, FR_WARNINGS } from './fr_lists.js';
 import { FR_MOMENTS } from './fr_moments.js';
+import { FR_PAGES } from './fr_pages.js';
 import { FR_READY } from './fr_ready.js';
 
 const { number, and, or, count, day } = formsOf('fr', 'et', 'ou');
@@ -201,5 +202,5 @@ export const FR = {
   moments: FR_MOMENTS, help: FR_HELP,
   folder: FR_FOLDER, find: FR_FIND, moving: FR_MOVING, upload: FR_UPLOAD, rights: FR_RIGHTS,
   faults: FR_FAULTS, warnings: FR_WARNINGS, access: FR_ACCESS, outcome: FR_OUTCOME,
-  advanced: FR_ADVANCED, ready: FR_READY, earlier: FR_EARLIER,
+  advanced: FR_ADVANCED, ready: FR_READY, earlier: FR_EARLIER, pages: FR_PAGES,
 };

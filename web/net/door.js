@@ -6,7 +6,7 @@ import { untilAnswered } from './retry.js';
 // What the room would be asked for, so that a refusal is told in the same words.
 const WORDS = {
   below: 'folder', closed: 'folder', find: 'folder', goes: 'folder', latest: 'folder',
-  zip: 'folder',
+  pages: 'doc', zip: 'folder',
 };
 
 // The door says that the room is away where nginx would say that there is no answer. A fault says
@@ -30,7 +30,8 @@ async function ask(method, word, path, form, query = '', given = {}) {
   if (!reply.ok) {
     throw new Refusal(reply.status, jsonOrNull(await reply.text().catch(() => '')), asked);
   }
-  return { told: await reply[form]().catch(lost), tag: reply.headers.get('ETag') };
+  return { told: reply.status === 204 ? null : await reply[form]().catch(lost),
+    tag: reply.headers.get('ETag'), pages: Number(reply.headers.get('Room-Pages')) };
 }
 
 const read = (word, path, query = '') => insisting(() => ask('GET', word, path, 'json', query))
@@ -121,6 +122,12 @@ export async function zipped(folder, names, signal) {
 // A document or a list with the tag that says which bytes it has: {blob, tag}.
 export const readTagged = (word, path) => insisting(() => ask('GET', word, path, 'blob'))
   .then(({ told, tag }) => ({ blob: told, tag }));
+
+// A page of a PDF as a picture, {blob, tag, pages}, with how many pages there are; null where no
+// pictures are made. If the document isn't the one with 'tag' any more, it is refused with 412.
+export const pictureOf = (path, number, tag = null) => insisting(() => ask('GET', 'pages', path,
+  'blob', `?${number}`, { headers: tag === null ? {} : { 'If-Match': tag } }))
+  .then(({ told, ...more }) => told && { blob: told, ...more });
 
 // Those whom its list lets change a document or a list, by name: users, groups as g:NAME, special
 // ones; null where the caller may not know it, and undefined if the door can't tell. It tells that

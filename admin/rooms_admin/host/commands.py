@@ -10,7 +10,7 @@ from typing import Any, TypeAlias
 from ..cli.report import Stop
 
 SECONDS = 60.0
-PIPE, NOTHING = subprocess.PIPE, subprocess.DEVNULL
+PIPE, NOTHING, TOGETHER = subprocess.PIPE, subprocess.DEVNULL, subprocess.STDOUT
 Child: TypeAlias = subprocess.Popen[bytes]
 # What systemctl answers at once; all else waits for servers, which may read their files for long.
 _ASKS = ("is-active", "is-enabled", "show", "reset-failed", "list-units")
@@ -77,6 +77,19 @@ def printed(words: Sequence[str]) -> str:
         return run(words).out
     except (OSError, Slow):
         return ""
+
+
+def bounded(words: Sequence[str], most: int, faults: int,
+            pass_fds: tuple[int, ...]) -> tuple[int, bytes]:
+    """Its status, which is below 0 where it was ended, and what it says: one that says more than so
+    many bytes isn't waited for. `faults` is where it says what is wrong. The limit of time is that
+    of the unit."""
+    one = subprocess.Popen(words, stdin=NOTHING, stdout=PIPE, stderr=faults, pass_fds=pass_fds,
+                           env=_ours())
+    assert one.stdout
+    with one.stdout:
+        said = one.stdout.read(most + 1)
+    return (-1, b"") if len(said) > most else (one.wait(), said)
 
 
 def shown(words: Sequence[str], given: bytes = b"") -> bool:

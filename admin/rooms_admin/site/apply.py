@@ -106,8 +106,10 @@ def serve(made: Changes, wanted: template.Site) -> None:
     own = any(one.own for one in wanted.shown)
     earlier = any(one.shows_nights for one in wanted.rooms)
     search = any(one.search for one in wanted.rooms)
+    here = any(not one.on for one in wanted.rooms)
     for name, is_wanted in (("password-file", own), ("own-password", own), ("nights", earlier),
-                            ("earlier", earlier), ("extract", search), ("texts", search)):
+                            ("earlier", earlier), ("extract", search), ("texts", search),
+                            ("picture", here)):
         unit = f"rooms-{name}.socket"
         is_on = os.path.islink(f"/etc/systemd/system/sockets.target.wants/{unit}")
         if is_wanted != is_on:

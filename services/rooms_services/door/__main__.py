@@ -56,6 +56,8 @@ def _given() -> argparse.Namespace:
                        help="the socket of who keeps texts")
     words.add_argument("--extract", default=feed.PLACE,
                        help="the socket of who reads the text of one document")
+    words.add_argument("--pictures", default="",
+                       help="the socket of who makes pictures of the pages of documents")
     return words.parse_args()
 
 
@@ -68,7 +70,8 @@ def main() -> int:
         keeper = begun(given.changes, given.dates, given.told, given.days,
                        os.path.join(kept, "dates"), bool(texts))
         locks = os.path.join(kept, "locks") if given.drive == "yes" else ""
-        serve(given.room, given.listen, given.would, locks, given.full, keeper, texts)
+        serve(given.room, given.listen, given.would, locks, given.full, keeper, texts,
+              given.pictures)
     except KeyboardInterrupt:
         pass
     except OSError as fault:

@@ -12,6 +12,7 @@ from .folders.closed import closed
 from .folders.find import find
 from .folders.goes import goes
 from .folders.matched import condition_of, read, replace, tag_alone
+from .folders.pages import page
 from .folders.would import Would, would
 from .search.search import Texts, search
 from ..room.paths import Names, chosen_in, names_in
@@ -20,9 +21,10 @@ from ..room.room import Room
 PREFIX = "/door/"
 # What may take long, each with its kind.
 LONG_ROUTES = {"below": "walk", "closed": "walk", "find": "walk", "folder": "walk", "goes": "walk",
-               "latest": "walk", "search": "search", "would": "walk", "zip": "zip"}
+               "latest": "walk", "pages": "picture", "search": "search", "would": "walk",
+               "zip": "zip"}
 # Behind what a query may stand.
-_ASKING = ("below", "find", "goes", "search", "zip")
+_ASKING = ("below", "find", "goes", "pages", "search", "zip")
 # Behind what no path stands.
 _PATHLESS = ("would",)
 
@@ -43,6 +45,8 @@ class Asked:
     keeper: Keeper | None
     texts: Texts | None
     would: Would
+    # The socket of who makes pictures of pages, or nothing.
+    pictures: str
 
     @property
     def dates(self) -> Keeper | None:
@@ -84,6 +88,11 @@ def _goes(asked: Asked) -> Answer:
     return goes(asked.room, asked.user, asked.names, chosen_in(asked.query))
 
 
+def _pages(asked: Asked) -> Answer:
+    return page(asked.room, asked.user, asked.names, asked.query, asked.field("If-Match"),
+                asked.pictures)
+
+
 def _zip(asked: Asked) -> Answer:
     return archive(asked.room, asked.user, asked.names,
                    chosen_in(asked.query) if asked.query else None)
@@ -110,7 +119,8 @@ _MATCHED: dict[str, Route] = {"GET": _read, "HEAD": _tag, "PUT": _replace}
 ROUTES: dict[str, dict[str, Route]] = {
     "below": {"GET": _below}, "closed": {"GET": _closed}, "find": {"GET": _find},
     "folder": {"GET": _folder}, "goes": {"GET": _goes}, "latest": {"GET": _latest},
-    "would": {"POST": _would}, "search": {"GET": _search}, "zip": {"GET": _zip},
+    "pages": {"GET": _pages}, "search": {"GET": _search}, "would": {"POST": _would},
+    "zip": {"GET": _zip},
     "doc": _MATCHED, "dacl": _MATCHED, "sacl": _MATCHED}
 
 

@@ -41,15 +41,18 @@ _ABOVE = re.compile(r"(/[a-z0-9-]{1,32})?")
 
 class Door:
     """A door may have no drive, keep no dates, and search no texts. `full` is the path of a file
-    that is there while the room takes no more."""
+    that is there while the room takes no more, and `pictures` the socket of who makes pictures of
+    pages."""
 
     def __init__(self, room: Room, would: Would, drive: Drive | None = None, full: str = "",
-                 keeper: Keeper | None = None, texts: Texts | None = None) -> None:
+                 keeper: Keeper | None = None, texts: Texts | None = None,
+                 pictures: str = "") -> None:
         self.texts = texts
         self.room = room
         self.would = would
         self.drive = drive
         self.keeper = keeper
+        self.pictures = pictures
         self.users = Users()
         self._full = full
 
@@ -172,7 +175,7 @@ class Handler(http.server.BaseHTTPRequestHandler):
             route, word, names, query = route_of(self.command, self.path)
             return route(Asked(self.door.room, user, self.command, word, names, query,
                                self._field, body, self.door.keeper, self.door.texts,
-                               self.door.would))
+                               self.door.would, self.door.pictures))
         except Stop as stop:
             return stop.answer(drive is not None)
         except OSError:
@@ -291,11 +294,12 @@ def opened(place: str, door: Door) -> Server:
 
 
 def serve(room: str, listen: str, would: str, locks: str, full: str,
-          keeper: Keeper | None, texts: Texts | None) -> None:
+          keeper: Keeper | None, texts: Texts | None, pictures: str = "") -> None:
     """Without a file of locks there is no drive."""
     drive = Drive(Kept(locks), full) if locks else None
     asked = Room(room, note=keeper.note if keeper else None)
-    with opened(listen, Door(asked, Would(would), drive, full, keeper, texts)) as server:
+    with opened(listen, Door(asked, Would(would), drive, full, keeper, texts,
+                             pictures)) as server:
         if keeper:
             threading.Thread(target=keeper.run, daemon=True).start()
         # (Its thread alone accepts, and waits for another one that ends it.)
