@@ -23,7 +23,7 @@ records() {
 }
 is_now() { # NAME PATH ROWS USER:PASSWORD: without moments (a line comes after its answer)
   local began=$SECONDS
-  printf '{"at":"%s","closed":[],"rows":[%s],"shows":"who"}' "$2" "$3" >wanted
+  printf '{"at":"%s","closed":[],"rows":[%s],"searches":false,"shows":"who"}' "$2" "$3" >wanted
   until curl -s -u "$4" "$base/door/folder$2" | sed 's/,"when":[0-9]\{10\}/,"when":T/g' >got &&
     cmp -s got wanted || [ $((SECONDS - began)) -ge 10 ]; do sleep 0.1; done
   same "$1" got wanted
@@ -218,8 +218,8 @@ ask 'a change' 201 '' alice:a /doc/f/unseen -X PUT --data-binary 12
 holds 'leaves no line then' [ -z "$(ls changes/office)" ]
 rows=
 for name in left plan unseen; do rows+="{\"kind\":\"document\",\"name\":\"$name\"},"; done
-ask 'the folder' 200 "{\"at\":\"/f\",\"closed\":[],\"rows\":[${rows%,}],\"shows\":null}" \
-  alice:a /door/folder/f
+rows="\"rows\":[${rows%,}],\"searches\":false"
+ask 'the folder' 200 "{\"at\":\"/f\",\"closed\":[],$rows,\"shows\":null}" alice:a /door/folder/f
 holds 'the door has no fault' [ "$(grep -c Traceback office.err)" = 0 ]
 holds 'nor has nginx' [ "$(grep -c -e emerg -e alert error.log)" = 0 ]
 stop_proxy

@@ -85,7 +85,7 @@ class Dates(Dated):
             self.assertEqual(self.told(f"/door/{route}/none")[0], 404)
             self.assertEqual(self.told(f"/door/{route}/f?x")[0], 400)
         self.assertEqual(self.told("/door/folder/f", "mia"), (200, {
-            "at": "/f", "closed": ["a", "b", "g"], "shows": "who", "rows": [
+            "at": "/f", "closed": ["a", "b", "g"], "searches": False, "shows": "who", "rows": [
                 {"kind": kind, "name": name} for kind, name in (
                     ("document", "a"), ("document", "b"), ("folder", "g"))]}))
         self.assertEqual(self.latest("f", "mia"), [])

@@ -105,6 +105,7 @@ class Found(Searching):
         _, said = self.told("/door/folder/f")
         assert isinstance(said, dict)
         self.assertIsNone(said["shows"])
+        self.assertIs(said["searches"], True)
         self.assertEqual(self.told("/door/latest/f")[0], 404)
 
 

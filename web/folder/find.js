@@ -5,6 +5,7 @@ import { announce } from '../ui/announce.js';
 import { button, element, icon, nameText } from '../ui/dom.js';
 import { texts } from '../language/language.js';
 import { findBelow } from '../net/door.js';
+import { showInTexts } from './in_texts.js';
 import { linkTo } from '../ui/links.js';
 import { tellFault, waitFor } from '../ui/messages.js';
 import { shortened } from '../ui/names.js';
@@ -23,7 +24,8 @@ function line({ path, kind }, top) {
       texts.folder.within(folder === '/' ? texts.places.all : marked(folder))));
 }
 
-// The arrow keys go from one to the next; up from the first leads back to the field.
+// The arrow keys go from one to the next, through both lists; up from the first leads back to the
+// field.
 function goThrough(list, field) {
   list.addEventListener('keydown', (event) => {
     const step = { ArrowDown: 1, ArrowUp: -1 }[event.key];
@@ -41,27 +43,30 @@ function toldOf({ found }, text, isBusy) {
   return found.length === 0 ? texts.find.none : texts.find.found(found.length, isolated(text));
 }
 
-function shown({ found, all, unlisted }, { text, top, field, isBusy }, back) {
+function shown({ found, all, unlisted }, { text, top, field, isBusy, below }, back) {
   const list = element('ul', { class: 'places found', 'aria-label': texts.find.find },
     found.map((one) => line(one, top)));
-  goThrough(list, field);
   const hidden = unlisted.map((path) => texts.places.quoted(isolated(path)));
-  return element('div', { class: 'found-of' },
+  const made = element('div', { class: 'found-of' },
     element('div', { class: 'bar' }, element('p', {}, toldOf({ found }, text, isBusy)),
       button(texts.page.backToFolder, back, { class: 'small' })), list,
     isBusy || all ? null : element('p', { class: 'hint' }, texts.find.more),
     hidden.length === 0 ? null
-      : element('p', { class: 'hint' }, texts.find.unseen(shortened(hidden, MOST_UNSEEN))));
+      : element('p', { class: 'hint' }, texts.find.unseen(shortened(hidden, MOST_UNSEEN))),
+    below);
+  goThrough(made, field);
+  return made;
 }
 
 // A search from the folder 'top' on: what was typed in 'field' is looked for, and shown in 'place'.
 class Finder {
-  constructor(top, field, { place, here, redraw }) {
+  constructor(top, field, { place, here, redraw, searches }) {
     this.top = top;
     this.field = field;
     this.place = place;
     this.here = here;
     this.redraw = redraw;
+    this.searches = searches;
     this.looks = 0;
     this.press = button(texts.find.find, () => this.start(), { class: 'small find' });
   }
@@ -81,17 +86,20 @@ class Finder {
     }
   }
 
-  // What fits in the open folder is there at once, all else comes later.
+  // What fits in the open folder is there at once, all else comes later: names, and then documents
+  // by their texts, where these are searched.
   async find(text) {
     this.looks += 1;
     const look = this.looks;
     const isWanted = () => look === this.looks && this.place.isConnected;
+    const below = this.searches() ? element('div', { class: 'found-in-texts' }) : null;
     const draw = (told, isBusy) => {
       this.place.replaceChildren(
-        shown(told, { text, top: this.top, field: this.field, isBusy }, () => this.back()));
+        shown(told, { text, top: this.top, field: this.field, isBusy, below }, () => this.back()));
       announce('good', toldOf(told, text, isBusy));
     };
     draw({ found: this.here(), all: false, unlisted: [] }, true);
+    if (below) showInTexts(below, this.top, text, isWanted);
     try {
       const told = await waitFor(findBelow(this.top, text));
       if (isWanted()) draw(told, false);
@@ -111,7 +119,8 @@ class Finder {
 }
 
 // The finder of a folder, whose button 'press' stands beside the field. 'place' is where the rows
-// are; 'here' has the objects of the open folder that fit, and 'redraw' shows the rows again.
+// are; 'here' has the objects of the open folder that fit, 'redraw' shows the rows again, and
+// 'searches' says whether texts are searched.
 export function finder(top, field, shownBy) {
   const made = new Finder(top, field, shownBy);
   field.addEventListener('input', () => { made.looks += 1; });

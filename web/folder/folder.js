@@ -26,10 +26,13 @@ const ASKED = 'rxwaDtcCo';
 // The filter, which also finds what is further down, and what can be done with what is selected.
 // Its place is kept when nothing is.
 function tools(look, does, redraw, found) {
-  const filter = element('input', {
-    type: 'search', 'aria-label': texts.folder.filter, placeholder: texts.folder.filter,
-    autocomplete: 'off', spellcheck: 'false',
-  });
+  const filter = element('input', { type: 'search', autocomplete: 'off', spellcheck: 'false' });
+  const offer = (searches) => {
+    const words = searches ? texts.search.field : texts.folder.filter;
+    filter.setAttribute('aria-label', words);
+    filter.setAttribute('placeholder', words);
+  };
+  offer(look.searches);
   filter.addEventListener('input', () => {
     look.filter = filter.value;
     redraw();
@@ -48,7 +51,7 @@ function tools(look, does, redraw, found) {
   const finding = finder(found.path, filter, { ...found, redraw });
   const shown = element('div', { class: 'tools' },
     element('div', { class: 'finding' }, filter, finding.press), chosen);
-  return { shown, tell, filter };
+  return { shown, tell, filter, offer };
 }
 
 // Where the focus is in the rows: {name, act, index}, or null.
@@ -72,7 +75,7 @@ function controlAt(table, { name, act, index = 0 }) {
 // An upload that was begun in one view may end while another one of the same folder is shown.
 let shownView = null;
 // What the room told of changes last, so that the next folder has its columns at once.
-let told = { shows: null, people: null };
+let told = { shows: null, people: null, searches: false };
 
 function shownAgain() {
   return shownView?.isCurrent() ? shownView.refresh() : null;
@@ -107,7 +110,8 @@ class FolderView {
       uploadAll(files, trees, folder, shownAgain, shownSoon);
     this.bar = folderBar(path, send, () => this.doing(() => acts.makeFolder(path)));
     this.tools = tools(this.look, (what) => this.withChosen(what), () => this.draw(), { path,
-      place: this.body, here: () => this.objects(shownOf(this.look)) });
+      place: this.body, here: () => this.objects(shownOf(this.look)),
+      searches: () => this.look.searches });
     this.area = element('section', { class: 'folder-view', 'aria-label': texts.folder.label },
       this.bar.shown, this.tools.shown, this.body, this.places);
     acceptDrops(this.area, path, send);
@@ -191,12 +195,13 @@ class FolderView {
   async showKnown() {
     const [details, names] = await Promise.all([detailsIn(this.path), people()]);
     if (!this.isCurrent()) return;
-    const { closed, known, shows = this.look.shows } = details;
+    const { closed, known, shows = this.look.shows, searches = this.look.searches } = details;
     const isOther = shows !== this.look.shows;
     if (isOther && this.look.by !== 'name') this.look.by = 'name';
-    told = { shows, people: names };
+    told = { shows, people: names, searches };
     Object.assign(this.look, told, { closed, known });
     this.bar.offer(shows);
+    this.tools.offer(searches);
     // Rows that are sorted by what is known only now have to be drawn anew.
     if (isOther || columnsOf(shows).includes(this.look.by)) this.draw(placeIn(this.body));
     else {

@@ -10,6 +10,7 @@ import { DE_MOMENTS } from './de_moments.js';
 import { DE_PAGES } from './de_pages.js';
 import { DE_READY } from './de_ready.js';
 import { EVERYONE, OTHERS, SIGNED_IN, verb } from './de_people.js';
+import { DE_SEARCH } from './de_search.js';
 import { formsOf } from './forms.js';
 
 const { number, and, or, count, day } = formsOf('de', 'und', 'oder');
@@ -207,5 +208,5 @@ export const DE = {
   moments: DE_MOMENTS, help: DE_HELP,
   folder: DE_FOLDER, find: DE_FIND, moving: DE_MOVING, upload: DE_UPLOAD, rights: DE_RIGHTS,
   faults: DE_FAULTS, warnings: DE_WARNINGS, access: DE_ACCESS, outcome: DE_OUTCOME,
-  advanced: DE_ADVANCED, ready: DE_READY, earlier: DE_EARLIER, pages: DE_PAGES,
+  advanced: DE_ADVANCED, ready: DE_READY, earlier: DE_EARLIER, pages: DE_PAGES, search: DE_SEARCH,
 };

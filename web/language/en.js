@@ -9,6 +9,7 @@ import { EN_ADVANCED, EN_RIGHTS, EN_WARNINGS } from './en_lists.js';
 import { EN_MOMENTS } from './en_moments.js';
 import { EN_PAGES } from './en_pages.js';
 import { EN_READY } from './en_ready.js';
+import { EN_SEARCH } from './en_search.js';
 import { formsOf } from './forms.js';
 
 const { number, and, or, count, day } = formsOf('en-GB', 'and', 'or');
@@ -196,5 +197,5 @@ export const EN = {
   moments: EN_MOMENTS, help: EN_HELP,
   folder: EN_FOLDER, find: EN_FIND, moving: EN_MOVING, upload: EN_UPLOAD, rights: EN_RIGHTS,
   faults: EN_FAULTS, warnings: EN_WARNINGS, access: EN_ACCESS, outcome: EN_OUTCOME,
-  advanced: EN_ADVANCED, ready: EN_READY, earlier: EN_EARLIER, pages: EN_PAGES,
+  advanced: EN_ADVANCED, ready: EN_READY, earlier: EN_EARLIER, pages: EN_PAGES, search: EN_SEARCH,
 };

@@ -1,5 +1,6 @@
 // The texts of the page in French: what stands everywhere. fr_*.js have the rest.
 
+import { FR_SEARCH } from './fr_search.js';
 import { formsOf } from './forms.js';
 import { FR_ACCESS, FR_OUTCOME } from './fr_access.js';
 import { FR_EARLIER } from './fr_earlier.js';
@@ -202,5 +203,5 @@ export const FR = {
   moments: FR_MOMENTS, help: FR_HELP,
   folder: FR_FOLDER, find: FR_FIND, moving: FR_MOVING, upload: FR_UPLOAD, rights: FR_RIGHTS,
   faults: FR_FAULTS, warnings: FR_WARNINGS, access: FR_ACCESS, outcome: FR_OUTCOME,
-  advanced: FR_ADVANCED, ready: FR_READY, earlier: FR_EARLIER, pages: FR_PAGES,
+  advanced: FR_ADVANCED, ready: FR_READY, earlier: FR_EARLIER, pages: FR_PAGES, search: FR_SEARCH,
 };

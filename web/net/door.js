@@ -6,7 +6,7 @@ import { untilAnswered } from './retry.js';
 // What the room would be asked for, so that a refusal is told in the same words.
 const WORDS = {
   below: 'folder', closed: 'folder', find: 'folder', goes: 'folder', latest: 'folder',
-  pages: 'doc', zip: 'folder',
+  pages: 'doc', search: 'folder', zip: 'folder',
 };
 
 // The door says that the room is away where nginx would say that there is no answer. A fault says
@@ -63,12 +63,14 @@ const SHOWS = ['when', 'who'];
 const shownIn = (shows) => (SHOWS.includes(shows) ? shows : null);
 
 // What is known of a folder beside the names in it: those that can't be opened, as a set; by name
-// what else is told, {when, before, who, size}; and whether that is told in this room: 'when',
-// 'who', null, or undefined where there is no answer. It is asked once: nothing waits for it.
+// what else is told, {when, before, who, size}; whether that is told in this room, 'when', 'who',
+// or null; and whether texts are searched. Both are undefined where there is no answer. It is asked
+// once: nothing waits for it.
 export const detailsIn = (path) => ask('GET', 'folder', path, 'json')
-  .then(({ told: { closed, rows = [], shows } }) => ({ closed: new Set(closed),
-    known: new Map(rows.map((one) => [one.name, knownOf(one)])), shows: shownIn(shows) }))
-  .catch(() => ({ closed: new Set(), known: new Map(), shows: undefined }));
+  .then(({ told: { closed, rows = [], shows, searches } }) => ({ closed: new Set(closed),
+    known: new Map(rows.map((one) => [one.name, knownOf(one)])), shows: shownIn(shows),
+    searches: searches === true }))
+  .catch(() => ({ closed: new Set(), known: new Map(), shows: undefined, searches: undefined }));
 
 // The documents below a folder that changed last: {found: [{path, when, who, size}], shows}.
 export async function newestBelow(path) {
@@ -79,6 +81,22 @@ export async function newestBelow(path) {
 
 // The names below a folder that contain a text: {all, found: [{path, kind}], unlisted: [path]}.
 export const findBelow = (path, text) => read('find', path, `?${encodeURIComponent(text)}`);
+
+const isText = (value) => Array.isArray(value) && value.length === 3
+  && value.every((one) => typeof one === 'string');
+const countIn = (value) => (isCount(value, Number.MAX_SAFE_INTEGER) ? value : 0);
+// The moment in the name of a night, such as 2026-11-30.020000, in seconds since 1970.
+const momentOf = (night) => new Date(String(night).replace(
+  /^(\d{4}-\d\d-\d\d)\.(\d\d)(\d\d)(\d\d)$/, '$1T$2:$3:$4')).getTime() / 1000;
+
+// The documents below a folder in whose texts these words stand: {all, found: [{path, count,
+// text}], night, unread, without}. 'text' is what stands before a word, the word, and what stands
+// behind it, or null. It isn't asked for again by itself.
+export const searchBelow = (path, text) =>
+  ask('GET', 'search', path, 'json', `?${encodeURIComponent(text)}`).then(({ told }) => ({
+    all: told.all === true, night: momentOf(told.night), unread: countIn(told.unread),
+    without: countIn(told.without), found: told.found.map((one) => ({ path: String(one.path),
+      count: countIn(one.count), text: isText(one.text) ? one.text : null })) }), fromDoor);
 
 // nginx takes a line of 16 kB, in which the room's own place stands too.
 const LONGEST = 16000;

@@ -69,7 +69,7 @@ def _closed(asked: Asked) -> Answer:
 
 
 def _folder(asked: Asked) -> Answer:
-    return listed(asked.room, asked.user, asked.names, asked.dates)
+    return listed(asked.room, asked.user, asked.names, asked.dates, asked.texts is not None)
 
 
 def _latest(asked: Asked) -> Answer:

@@ -36,9 +36,10 @@ def may_know(may: dict[str, bool], is_folder: bool) -> bool:
 
 
 class Listed:
-    def __init__(self, room: Room, user: str, keeper: Keeper | None) -> None:
+    def __init__(self, room: Room, user: str, keeper: Keeper | None, searches: bool) -> None:
         self.walk = Walk(room, user)
         self.keeper = keeper
+        self.searches = searches
         self.children: list[Node] = []
         self.closed: list[bytes] = []
         self.known: dict[str, Known] = {}
@@ -63,7 +64,8 @@ class Listed:
         self.walk.all()
         return told_as_it_comes({
             "at": top.path, "closed": (name.decode() for name in self.closed),
-            "rows": self._rows(), "shows": self.keeper.shows if self.keeper else None})
+            "rows": self._rows(), "searches": self.searches,
+            "shows": self.keeper.shows if self.keeper else None})
 
     def _may(self, child: Node, reply: Reply) -> None:
         # (nothing is said of what is gone by now)
@@ -85,5 +87,6 @@ class Listed:
             yield row
 
 
-def listed(room: Room, user: str, names: Names, keeper: Keeper | None) -> Answer:
-    return Listed(room, user, keeper).look(names)
+def listed(room: Room, user: str, names: Names, keeper: Keeper | None, searches: bool) -> Answer:
+    """Also whether the room's texts are searched, so that the web interface offers that."""
+    return Listed(room, user, keeper, searches).look(names)
