@@ -1,5 +1,7 @@
 """The play of what takes several steps, of forms, and of what the page says of itself."""
 
+import time
+
 from selenium.webdriver.common.keys import Keys
 
 ALL = 'rwanNxDtThHdcCoy'
@@ -74,6 +76,28 @@ class Leaving:
         alice.says('too much was asked for at once', '“Try the failed ones again”',
                    css='.uploads .bad')
         assert 'password' not in alice.texts('.uploads')[0]
+
+    def told_in_time(self):
+        """The page tries for the half minute that it speaks of, and not for another one."""
+        alice = self.alice
+        self.ask('POST', '/folder/late')
+        alice.open('#/late')
+        alice.script("""const real = Object.getOwnPropertyDescriptor(XMLHttpRequest.prototype,
+              'status');
+            window.isAway = true;
+            Object.defineProperty(XMLHttpRequest.prototype, 'status', {
+              get() { return window.isAway ? 502 : real.get.call(this); } });""")
+        self.uploads(alice, self.files(9, 'late'))
+        alice.until(lambda: any('tries again for half a minute' in one
+                                for one in alice.texts('.notice')), 'that it waits')
+        began = time.monotonic()
+        alice.until(lambda: alice.texts('.uploads .count') == ['9 of 9'], 'the end', 90)
+        took = time.monotonic() - began
+        assert 25 < took < 34, took
+        assert not any('tries again' in one for one in alice.texts('.notice'))
+        alice.script('window.isAway = false')
+        alice.press('Try the failed ones again', '.uploads')
+        alice.until(lambda: len(alice.names()) == 9, 'all of them')
 
     def one_question(self):
         """Who uploads what this browser gave out is asked once if somebody changed it meanwhile."""
@@ -225,6 +249,7 @@ class Leaving:
         alice.press('Close', 'dialog')
 
     PLAY = [('an upload is stopped', stopped), ('too much at once', too_much),
+            ('an upload while the room is away', told_in_time),
             ('one question', one_question), ('who leaves', leaves), ('a rename', renames),
             ('by this list', by_this_list), ('all places', all_places),
             ('levels of a document', words_of_levels), ('ready-made lists', ready_made),
