@@ -147,6 +147,21 @@ checks 'no door' 2 \
   "rooms CRITICAL - office: its door doesn't run: systemctl restart rooms-door@office"
 echo active >door
 
+# What nginx writes for the door, while that doesn't take it. (It has no bytes on the disk.)
+changes=root/var/lib/rooms-changes/office
+mkdir -p "$changes"
+truncate -s 60000000 "$changes/journal"
+checks 'a journal of changes' 0 'rooms OK'
+truncate -s 50000000 "$changes/journal.old"
+checks 'one that has grown' 1 \
+  'office: its journal of changes has 110 MB: systemctl status rooms-door@office'
+# Whatever the door has put there: nothing is opened.
+rm "$changes"/journal*
+mkfifo "$changes/journal"
+ln -s /etc/shadow "$changes/journal.old"
+checks 'is only looked at' 0 'rooms OK'
+rm -r "$changes"
+
 # A kernel that allows no namespaces of users, which units want.
 mkdir -p root/proc/sys/user
 echo 0 >root/proc/sys/user/max_user_namespaces

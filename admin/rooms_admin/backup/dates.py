@@ -32,6 +32,16 @@ def _reader(room: Room) -> int | None:
     return seen.st_uid if room.notes_changes and stat.S_ISDIR(seen.st_mode) else None
 
 
+def journal(room: Room) -> int:
+    """How many bytes the lines have that the room's door hasn't taken away. Its folder is the
+    door's, so nothing there is opened."""
+    size = 0
+    for name in ("journal", "journal.old"):
+        with contextlib.suppress(OSError):
+            size += os.lstat(f"{ROOT}{CHANGES}/{room.name}/{name}").st_size
+    return size
+
+
 def _to(reader: int) -> int:
     """Only root gives a file away."""
     return reader if os.geteuid() == 0 else -1

@@ -14,7 +14,7 @@ from collections.abc import Callable
 
 from ..host import root, waiting
 from ..room import awaited, limit, needs, server, settings
-from ..backup import backups, for_search, growth, hours
+from ..backup import backups, dates, for_search, growth, hours
 from ..site import apache, certificates, connections, template
 from ..cli.report import Refused, Stop
 from ..host.commands import printed
@@ -32,6 +32,8 @@ FULL = 16 << 20
 CONNECTIONS = 768
 # The clocks of a disk and of the machine may differ by so much.
 AHEAD = 120
+# So many megabytes of lines about changes: a day of an office has less than one.
+GROWN = 100
 # Full in fewer weeks than this: it takes some to get a larger machine.
 SOON = 8
 # Where rooms-nights.service may not look.
@@ -87,6 +89,13 @@ def see_door(room: Room) -> list[Finding]:
             ["systemctl", "is-active", unit]) == "active":
         return []
     return [(CRITICAL, f"its door doesn't run: systemctl restart {unit}")]
+
+
+def see_journal(room: Room) -> list[Finding]:
+    """A door that takes lines of changes takes them away within minutes. nginx writes on."""
+    megabytes = dates.journal(room) // 1_000_000
+    return [(WARNING, f"its journal of changes has {megabytes} MB: systemctl status "
+             f"rooms-door@{room.name}")] if megabytes >= GROWN else []
 
 
 def _place(room: Room) -> tuple[str, str] | None:
@@ -472,5 +481,6 @@ def of_room(conf: str) -> list[Finding]:
     return [*(found for look in looks
               for found in within(PATIENCE, lambda: look(room), f"{room.unit} or nginx")),
             *within(20, lambda: see_disk(room), f"{room.folder}"),
+            *within(20, lambda: see_journal(room), dates.CHANGES),
             *(found for look in (see_backups, see_pace, see_hours, see_nights)
               for found in within(20, lambda: look(room), f"{room.backups}"))]
