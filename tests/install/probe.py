@@ -54,14 +54,14 @@ def main():
         tries(f"read {path}", lambda path=path: reads(path))
     for path in ("/var/lib/rooms", "/var/backups/rooms", "/var/lib/rooms-web", "/run/rooms/office",
                  "/run/rooms-front", "/run/rooms-front/remembered", "/var/lib/rooms-passwords",
-                 "/var/cache/rooms-nights", "/var/log/nginx"):
+                 "/var/cache/rooms-nights", "/var/log/nginx", "/var/cache/rooms-texts/office"):
         tries(f"list {path}", lambda path=path: listed(path))
     for path in ("/etc", "/etc/nginx", "/etc/rooms", "/usr", "/run", "/run/rooms-full",
                  "/run/rooms/invoices", "/var/lib",
                  "/var/lib/rooms", "/var/lib/rooms-web", "/var/lib/rooms-passwords", "/var/backups",
                  "/var/cache/rooms-nights", "/run/rooms-nights", "/var/tmp", "/dev/shm",
                  "/var/lib/rooms-told", "/var/lib/rooms-changes", "/var/lib/rooms-changes/office",
-                 "/var/lib/rooms-changes/invoices"):
+                 "/var/lib/rooms-changes/invoices", "/var/cache/rooms-texts/office"):
         tries(f"write {path}", lambda path=path: writes(f"{path}/probe"))
     # Where nginx opens what somebody else may put there.
     link = "/var/lib/rooms-changes/office/link"
@@ -70,7 +70,8 @@ def main():
     for path in ("/run/rooms/office/socket", "/run/rooms/invoices/socket",
                  "/run/rooms-front/passwords.sock", "/run/rooms-own-password/socket",
                  "/run/rooms-nights/socket", "/run/rooms-earlier/socket",
-                 "/run/rooms-picture/socket",
+                 "/run/rooms-picture/socket", "/run/rooms-texts/socket",
+                 "/run/rooms-extract/socket",
                  "/run/dbus/system_bus_socket", "/run/systemd/private"):
         tries(f"ask {path}", lambda path=path: reaches(path))
     tries("ask 127.0.0.1:80", goes_out)

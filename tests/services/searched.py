@@ -10,7 +10,7 @@
   searched.py PROGRAM FOLDER times COUNT    how long a question takes whose word stands in barred
                                             papers, and one whose word stands nowhere
   searched.py PROGRAM FOLDER many COUNT [SOCKET]  how long one takes in a room of so many documents;
-                                            documents are read by who listens at that socket
+                                            what is shown is read by who listens at that socket
 
 It prints a line for each thing that it has found, and its status is 1 if one is wrong."""
 import csv
@@ -19,7 +19,6 @@ import io
 import json
 import os
 import random
-import resource
 import shutil
 import socket
 import sys
@@ -101,7 +100,7 @@ class Searched:
         for end in ("", "-wal"):
             if os.path.exists(self.lab.file + end):
                 shutil.copy(self.lab.file + end, copied + end)
-        night.Night("office", self._read(), 7200.0).make(copied, moment, "2026-11-30.020000")
+        night.Night("office", extract.read, 7200.0).make(copied, moment, "2026-11-30.020000")
         out = io.StringIO()
         with mock.patch.object(sys, "argv", ["", copied, str(moment)]), \
                 mock.patch.object(sys, "stdout", out):
@@ -112,9 +111,6 @@ class Searched:
         self.keeper.catch_up()
         self.keeper.take_night()
         time.sleep(0.003)
-
-    def _read(self) -> night.Read:
-        return extract.read if feed.text_of is _read_here else feed.text_of
 
     def ask(self, user: str, words: str, path: str = "") -> bytes:
         answer = search.search(self.room, user, names_in(target(path)) if path else (),
@@ -455,13 +451,11 @@ def many(program: str, folder: str, count: int, place: str = "") -> None:
             size += len(data)
             bulk.make(f"{at}/d{number}", data)
         bulk.close()
-        with one.nights_here(), mock.patch.object(night, "AT_ONCE", 3):
-            if place:
-                feed.PLACE = place
-            began = time.monotonic()
+        with one.nights_here():
             one.make_night()
-            say(True, f"{count} documents, {size >> 20} MB: a night in "
-                f"{time.monotonic() - began:.0f} s")
+            kept = sum(os.path.getsize(os.path.join(at, name)) for at, _, names in os.walk(
+                one.texts_folder) for name in names)
+            say(True, f"{count} documents, {size >> 20} MB, with texts of {kept >> 20} MB")
             for word in ("merger", "kundigung", "nothing of that"):
                 took = []
                 for _ in range(7):
@@ -470,8 +464,6 @@ def many(program: str, folder: str, count: int, place: str = "") -> None:
                     took.append(time.monotonic() - began)
                 say(sorted(took)[3] < 2.0 or not place, f"{word}: {len(shown)} shown; s: "
                     f"middle {sorted(took)[3]:.2f}, most {max(took):.2f}")
-        say(True, f"memory of all but the room: "
-            f"{resource.getrusage(resource.RUSAGE_SELF).ru_maxrss >> 10} MB at most")
         one.lab.__exit__()
 
 
