@@ -34,8 +34,7 @@ a_file_of_members() {
   again() {
     told "$1: the same command" 0
     members_are "$1: does all of it" clerks,bob clerks,carol
-    holds "$1: and who there is can be chosen" grep -q '"clerks":\["bob","carol"\]' \
-      "$web/people.json"
+    holds "$1: and the groups that there are" grep -q '"groups":{"clerks":\[\]}' "$web/people.json"
     nothing_else "$1"
   }
   words=(members "$PWD/wanted.csv" --room "$PWD/office.conf")

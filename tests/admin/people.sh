@@ -52,6 +52,10 @@ room_verb until
 says 'nor lists' 2 'no backup yet'
 holds 'and no file' is_missing "$web/people.json"
 unit stop
+room_verb people --dry-run
+says 'what names there would be' 0 \
+  "would: new $web/people.json: users 7, groups 2, full names 0"
+holds 'and still no file' is_missing "$web/people.json"
 room_verb people
 says 'names of a room that rests' 0 'left out: two\ words in '
 people_are 'users and groups, as installed' "$few"
@@ -65,6 +69,8 @@ setting PEOPLE full
 room_verb people
 people_are 'with members' "{\"made\":\"DATE\",\"members\":true,\"users\":[$users],\"groups\":{\"clerks\":[\"OFFICE\\\\dave\"],\"staff\":[\"alice\",\"bob\",\"carol\"]},\"names\":{}}"
 setting PEOPLE no
+room_verb people --dry-run
+says 'without names' 0 "would: $web/people.json is removed"
 room_verb people
 ended_well 'no names'
 holds 'is no file' is_missing "$web/people.json"
@@ -325,6 +331,10 @@ holds 'which is something, however the lists came out' [ "$(sed 's/.* //' "$work
 modes_are 'nginx reads the files' "$web/mine/bob.json" '640 root:www-data'
 modes_are 'and their folder' "$web/mine" '750 root:www-data'
 cp -r "$web/mine" first
+touch -d 2001-01-01 "$web/mine"
+room_verb mine --dry-run
+says 'what it would show' 0 "would: new $web/mine: users "
+holds 'is not written' [ "$(stat -c %y "$web/mine" | cut -c1-4)" = 2001 ]
 room_verb mine
 ended_well 'once more, by hand'
 holds 'says the same' diff -r first "$web/mine"

@@ -22,6 +22,10 @@ new_office() {
   unit start
 }
 new_office
+stands_dry() { verb standby --dry-run --room "$PWD/conf"; }
+stands_dry
+told 'what would be copied' 0 "would: $PWD/office/F, 0 MB, is copied to $PWD/backups/conf/standby/F"
+holds 'nothing is' [ ! -e backups/conf/standby ]
 answers() { # NAME
   asks_there "$1" "json '200 OK' '{}'" GET '/can/?' root
 }

@@ -239,6 +239,16 @@ says 'a folder with more in it' 1 "can't be removed"
 rm backups/conf/2019-01-02.030000/mine
 rmdir backups/conf/2019-01-02.030000
 holds 'the others went' [ "$(backups | grep -c '^2020-01-0[34]')" = 2 ]
+# What the next one would remove is said without a copy, and nothing of it is done.
+backups >before
+verb backup --dry-run --room "$PWD/conf"
+holds 'a dry run' [ "$status" = 0 ]
+sed "s/[0-9-]*[.][0-9]*\$/DATE/" "$work/out" >got
+printf '%s\n' "would: $PWD/office/F is copied to $PWD/backups/conf/DATE" \
+  "would: $PWD/backups/conf/2020-01-03.030000 is removed" >wanted
+same 'says where it would be, and what would go' got wanted
+backups >after
+same 'nothing is copied or removed' after before
 night
 holds 'a good night with KEEP' [ "$status" = 0 ]
 holds 'three good ones stay' [ "$(find backups -name F | grep -vc unsound)" = 3 ]

@@ -103,6 +103,12 @@ for host in acme.gv.at acme.ltd.uk acme.gouv.fr acme.github.io acme.sch.uk acme.
 done
 makes "one for two hosts" 0 "$below rooms.a.example, hr.b.example" rooms.a.example hr.b.example
 holds 'has both' [ "$(permitted)" = 'DNS:rooms.a.example DNS:hr.b.example ' ]
+makes 'what would be made' 0 "would: authority /root/authority/authority.pem, $below a.example" \
+  --dry-run a.example
+told 'and certified' 0 'would: certificate /etc/ssl/rooms.pem for a.example, until '
+holds 'is not made' [ -z "$(find of -type f)" ]
+makes 'nor what an authority could not certify' 2 "isn't in the domain a.example" --dry-run \
+  --domain a.example b.example
 makes 'one for a domain' 0 "$below a.example" --domain a.example rooms.a.example
 holds 'has all of it' [ "$(permitted)" = 'DNS:a.example ' ]
 makes 'a domain of another host' 2 "hr.b.example isn't in the domain a.example" \
@@ -130,6 +136,10 @@ on_own certificate --domain a.rooms.example b.a.rooms.example >"$work/out" 2>"$w
 status=$?
 told 'of an authority that is there' 2 'not for a.rooms.example: /root/authority/authority.pem is'
 same 'nothing is changed' rooms.pem rooms.pem.before
+on_own certificate --dry-run rooms.example >"$work/out" 2>"$work/err" </dev/null
+status=$?
+told 'a renewal that would be' 0 'would: certificate /etc/ssl/rooms.pem for rooms.example, until '
+same 'is not made' rooms.pem rooms.pem.before
 
 # One that was bought stays, as does what can't be read; a renewal of its own goes on.
 mkdir -p bought/etc/ssl/private run.bought

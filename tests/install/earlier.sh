@@ -125,9 +125,11 @@ does 'backups of the old one are brought' 'mkdir -m 700 /var/backups/rooms/offic
 for one in "$night" "$hour"; do
   is 'it is shown' yesterday "curl -s $bob $at/earlier/$one/doc/letter"
 done
-does 'a night and an hourly copy of its own' 'systemctl start rooms-nightly@office &&
-  touch -d "2 hours ago" /var/backups/rooms/office/hours/*/run && rooms-admin standby'
-is 'are shown beside them' 4 "curl -s $bob $at/earlier/nights | grep -o '\"night\"' | wc -l"
+# (An hourly copy is of when its name says.)
+does 'a night and an hourly copy of its own' "systemctl start rooms-nightly@office &&
+  cd /var/backups/rooms/office/hours && mv $hour \$(date -d '2 hours ago' +%F.%H%M%S) &&
+  rooms-admin standby"
+is 'are shown beside them' 9 "curl -s $bob $at/earlier/nights | grep -o '\"night\"' | wc -l"
 does 'nothing of it is as no run leaves it' 'rooms-admin backups'
 holds 'which would be told' [ ! -s "$work/err" ]
 does 'EARLIER_FROM' "sed -i s/^EARLIER_FROM=.*/EARLIER_FROM=\$(date -d '1 day' +%F)/ \

@@ -132,7 +132,7 @@ restarts_well() { # NAME HOW-CURL-GETS-THERE
 restarts_well 'at its socket' '--unix-socket /run/rooms/office/socket http://localhost'
 # A port beside it, and none again, by the blocks of the page: only root and nginx are answered
 # there, whatever rules of the firewall somebody loads.
-does 'a port' "$(block docs/operating.md 'echo PORT=8780')"
+does 'a port' "$(block docs/operating.md 'set PORT=8780')"
 does 'what there is' 'systemctl is-active rooms-port@office.socket rooms-firewall &&
   nft list table inet rooms | grep -c "tcp dport"; ls /run/rooms/office'
 printf '%s\n' active active 1 socket >wanted
@@ -196,7 +196,7 @@ does 'another upgrade' \
   'dpkg -i rooms.deb && tail -n 1 /etc/rooms/office.conf'
 holds 'leaves the port' [ "$(tail -n 1 "$work/out")" = PORT=8780 ]
 gets_to_port 'who gets to it after that'
-does 'no port' "$(block docs/operating.md 'echo PORT= ')"
+does 'no port' "$(block docs/operating.md 'set PORT= ')"
 does 'is there' 'systemctl is-active rooms-port@office.socket || :
   ls -d /etc/systemd/system/rooms-port* /etc/systemd/system/rooms@office.service.wants/* || :
   (exec 3<>/dev/tcp/127.0.0.1/8780) 2>/dev/null || echo closed'
@@ -442,6 +442,7 @@ does 'the setting is mended' \
   'sed -i "s/^LIMIT=.*/LIMIT=/" /etc/rooms/office.conf; systemctl restart rooms@office'
 shows 'and the watch is back' rooms-full@office ActiveState active
 does 'and the nightly run' 'systemctl start rooms-nightly@office'
+does 'no TLS, as it is meant' 'rooms-admin set --site UNENCRYPTED=yes'
 checks 'the check has nothing to say' 0 'rooms OK - office: answers, nginx answers, ' \
   'of 2 MB in use'
 

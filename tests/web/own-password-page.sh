@@ -30,6 +30,12 @@ begin() { # as at the beginning
   reload_front
 }
 begin
+# (The page waits for a room that doesn't answer, so hr has a server too.)
+"$rooms" init H alice staff >hr.out
+mkdir -p run/rooms/hr
+"$rooms" serve H --socket "$PWD/run/rooms/hr/socket" --count 100000 </dev/null >hr.out 2>&1 &
+others+=("$!")
+until [ -S run/rooms/hr/socket ]; do sleep 0.02; done
 start_door office
 start_door hr
 play 'own passwords in Chromium' own_password.py "$PWD" "$front" chromium
