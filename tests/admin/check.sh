@@ -167,9 +167,10 @@ mkdir -p root/proc/sys/user
 echo 0 >root/proc/sys/user/max_user_namespaces
 none='rooms CRITICAL - office: this machine allows no namespaces of users, so these can'\''t start:'
 checks 'no namespaces of users' 2 \
-  "$none rooms@office rooms-full@office rooms-door@office rooms-earlier: sysctl user."
+  "$none rooms@office rooms-full@office rooms-door@office rooms-would@ rooms-earlier: sysctl user."
 settings EARLIER=no
-checks 'for earlier nights, where nobody sees any' 2 'rooms-full@office rooms-door@office: sysctl'
+checks 'for earlier nights, where nobody sees any' 2 \
+  'rooms-full@office rooms-door@office rooms-would@: sysctl'
 settings
 echo no >private
 checks 'units that want none' 0 'rooms OK'

@@ -76,6 +76,17 @@ alone 'a list is read at the door' '[.]split\(b?":"|removeprefix\(b?"list:' \
 alone 'a tag is made' 'sha256\(' services/rooms_services/room/tags.py "${of_door[@]}"
 alone 'who could have changed it is said' 'def holders|changersBy|inForce\([^)]*'"'[wa]*C'" \
   services/rooms_services/door/folders/holders.py "${of_door[@]}" 'web/net/*.js' 'web/share/*.js'
+# What a list grants is asked of the program. Only these know of a part of it how it decides: by
+# which entry somebody has a right, and who may remove what, by what the room rules of three rights.
+# Tests compare each with the program.
+alone 'which entry rules a right' \
+  '[.](intersection|isdisjoint)\([a-z_.]*mask\)|in (it|one|entry|found)[.]mask\b' \
+  admin/rooms_admin/lists/reasons.py "${of_admin[@]}" "${of_services[@]}"
+alone 'who may remove it' '"[dDw]", "(allowed|denied)"' \
+  services/rooms_services/door/folders/goes.py "${of_admin[@]}" "${of_services[@]}"
+alone 'who may remove it, by the page' "[dDw] === '[AD]' (\\|\\||\\?)" web/acl/decide.js \
+  'web/*/*.js'
+alone 'an entry rules a right, by the page' 'isRuling\(|bitsOf\(' web/acl/decide.js 'web/*/*.js'
 alone 'which day it is' 'toISOString\(\)[.]slice\(0, 10\)|getDate\(\)|T23:59' web/net/clock.js \
   'web/*/*.js'
 alone 'which signs are invisible' 'u3164|u2800|u200[bef]|u202[ae]' web/tables/invisible_signs.js \

@@ -49,6 +49,10 @@ if has flock; then
     'a.bob  rwaxtc  remove  by A:fdgI:staff:rwaxtc, A:fdg:staff:rwaxtc of /' \
     "alice  $ALL  remove  by A:fdI:alice:$ALL" 'every other name  nothing' \
     'a caller without a name  nothing' 'group staff: a.bob'
+  paste_in "$(blocks lists.md 'rooms-admin would set')"
+  cp "$work/out" got
+  blocks lists.md 'by the night' | sed "s/by the night .*:/by the night ${backup##*/}:/" >wanted
+  same 'who would lose by a list' got wanted
 else
   skip 'a backup before an upgrade' 'no flock'
   backup=

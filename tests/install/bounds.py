@@ -16,7 +16,7 @@ def tasks() -> int:
             if child == 0:
                 signal.pause()
             made.append(child)
-    except BlockingIOError:
+    except (BlockingIOError, PermissionError):
         pass
     for child in made:
         os.kill(child, signal.SIGKILL)
@@ -24,15 +24,25 @@ def tasks() -> int:
     return len(made) + 1
 
 
-def has(megabytes: int) -> bool:
-    """By a child, which is killed where that is too much."""
-    child = os.fork()
-    if child == 0:
-        held = []
+def takes(megabytes: int) -> bool:
+    held = []
+    try:
         for _ in range((megabytes << 20) // STEP):
             held.append(mmap.mmap(-1, STEP))
             held[-1].write(b"\1" * STEP)
-        os._exit(0)
+    except (OSError, MemoryError):
+        return False
+    return True
+
+
+def has(megabytes: int) -> bool:
+    """By a child, which is killed where that is too much; or by itself, where it may have none."""
+    try:
+        child = os.fork()
+    except PermissionError:
+        return takes(megabytes)
+    if child == 0:
+        os._exit(0 if takes(megabytes) else 1)
     return os.waitpid(child, 0)[1] == 0
 
 

@@ -21,7 +21,8 @@ allows 0
 inside 'systemctl restart rooms@office'
 none='this machine allows no namespaces of users, so these can'\''t start:'
 inside 'rooms-admin check'
-told 'without any' 2 "$none rooms@office rooms-full@office rooms-door@office rooms-earlier: " \
+told 'without any' 2 \
+  "$none rooms@office rooms-full@office rooms-door@office rooms-would@ rooms-earlier: " \
   "rooms@office doesn't answer"
 does 'systemd says' 'journalctl -u rooms@office --no-pager -o cat'
 holds 'why, as the page has it' grep -q 'Failed to set up user namespacing: ' "$work/out"
@@ -37,7 +38,8 @@ does 'a server without one, as the page says' "mkdir -p $own &&
   systemctl daemon-reload; systemctl reset-failed rooms@office; systemctl restart rooms@office"
 until_inside 'is served' "[ \"\$($asks/can/?)\" = 200 ]"
 inside 'rooms-admin check'
-told 'the others are told' 2 "$none rooms-full@office rooms-door@office rooms-earlier: sysctl"
+told 'the others are told' 2 \
+  "$none rooms-full@office rooms-door@office rooms-would@ rooms-earlier: sysctl"
 does 'it goes' "rm -r $own; systemctl daemon-reload"
 allows 100
 does 'where there are some again' 'systemctl restart rooms@office'

@@ -342,4 +342,5 @@ does 'what was enabled' "[ ! -e rooms.units ] &&
 prints 'is so again, by the units of the package' rooms-connections.service \
   rooms-passwords.service rooms@.service rooms-earlier.socket rooms-nights.socket \
   rooms-own-password.socket rooms-password-file.socket rooms-picture.socket \
+  rooms-would.socket \
   rooms-directory@.timer rooms-nightly@.timer rooms-standby@.timer

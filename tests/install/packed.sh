@@ -56,6 +56,7 @@ for file in usr/bin/rooms usr/bin/rooms-import usr/bin/rooms-export usr/sbin/roo
   usr/share/rooms/proxied.conf.in usr/share/rooms/scgi.conf.in \
   $units/rooms-door@.socket $units/rooms-wait@.service $units/rooms-wait@.socket \
   usr/share/rooms/rooms_services/wait.py \
+  $units/rooms-would@.service $units/rooms-would.socket \
   $units/rooms-earlier.service $units/rooms-earlier.socket $units/rooms-nights.service \
   $units/rooms-nights.socket usr/share/rooms/rooms_services/earlier/judge.py \
   $units/rooms-picture.socket $units/rooms-picture@.service \

@@ -43,6 +43,11 @@ def goes_out():
     socket.create_connection(("127.0.0.1", 80), 3).close()
 
 
+def sees_others():
+    others = [one for one in os.listdir("/proc") if one.isdigit() and int(one) != os.getpid()]
+    assert any(os.stat(f"/proc/{one}").st_uid != os.getuid() for one in others)
+
+
 def owns():
     os.chown("/var/tmp/probe", 0, 0)
 
@@ -71,7 +76,7 @@ def main():
                  "/run/rooms-front/passwords.sock", "/run/rooms-own-password/socket",
                  "/run/rooms-nights/socket", "/run/rooms-earlier/socket",
                  "/run/rooms-picture/socket", "/run/rooms-texts/socket",
-                 "/run/rooms-extract/socket",
+                 "/run/rooms-extract/socket", "/run/rooms-would/socket",
                  "/run/dbus/system_bus_socket", "/run/systemd/private"):
         tries(f"ask {path}", lambda path=path: reaches(path))
     tries("ask 127.0.0.1:80", goes_out)
@@ -84,9 +89,7 @@ def main():
     tries("a namespace", lambda: calls("unshare", "-U", "true"))
     tries("signal the first process", lambda: os.kill(1, signal.SIGCONT))
     tries("trace", lambda: calls("dmesg"))
-    others = [one for one in os.listdir("/proc") if one.isdigit() and int(one) != os.getpid()]
-    if any(os.stat(f"/proc/{one}").st_uid != os.getuid() for one in others):
-        can.append("see processes of others")
+    tries("see processes of others", sees_others)
     print("\n".join(can), flush=True)
 
 

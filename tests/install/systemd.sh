@@ -36,7 +36,7 @@ does 'a backup, and a key' 'systemctl start rooms-nightly@office
   : >/etc/rooms/passwords.key; chmod 600 /etc/rooms/passwords.key'
 does 'who reads what' 'for user in nobody www-data rooms rooms-passwords rooms-mail rooms-door \
   rooms-backup rooms-night rooms-earlier rooms-wait rooms-texts rooms-extract \
-  rooms-picture; do
+  rooms-picture rooms-would; do
   for file in /var/lib/rooms/office.rooms /var/backups/rooms/office/2*/office.rooms \
     /var/backups/rooms/office/2*/machine.tar /var/lib/rooms-passwords/rooms.htpasswd \
     /etc/rooms/passwords.key /var/lib/rooms-web/office/people.json /etc/shadow; do

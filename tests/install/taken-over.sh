@@ -58,7 +58,7 @@ bounded() { # NAME UNIT TASKS MEGABYTES
 }
 probed 'in the place of a door' rooms-door@office \
   'write /var/tmp' 'write /var/lib/rooms-changes/office' 'ask /run/rooms/office/socket' \
-  'ask /run/rooms/invoices/socket' 'ask /run/rooms-picture/socket'
+  'ask /run/rooms/invoices/socket' 'ask /run/rooms-picture/socket' 'ask /run/rooms-would/socket'
 probed 'in the place of a watch' rooms-full@office \
   'read /etc/rooms/office.conf' 'read /etc/nginx/nginx.conf' 'list /var/lib/rooms' \
   'list /var/log/nginx' 'write /run/rooms-full' 'write /var/tmp' \
@@ -88,4 +88,44 @@ bounded 'what asks a directory' rooms-passwords 256 512
 becomes= bounded 'what opens nights' rooms-nights 96 1536
 does 'the unit of the page' "$(block docs/directory.md '[Service]' | sed '/^systemctl /d')"
 probed 'in the place of what has sessions' rooms-session "${by_apache[@]}"
+
+# What says what would come of a change: whoever asks has its output. Python needs files that its
+# unit hides, and calls about files that it refuses; and another question waits, whose process it
+# might end.
+cat >"$machine/usr/local/lib/signals.py" <<'END'
+import os
+for one in range(2, 4000):
+    try:
+        os.kill(one, 0)
+        print("a signal to", one)
+    except OSError:
+        pass
+print("tried")
+END
+cat >"$machine/usr/local/lib/asks.py" <<'END'
+import socket
+import sys
+import time
+asking = socket.socket(socket.AF_UNIX)
+asking.connect("/run/rooms-would/socket")
+time.sleep(int(sys.argv[1]))
+asking.shutdown(socket.SHUT_WR)
+print(asking.makefile().read(), end="")
+END
+asked_there() { # NAME WORDS LINE ..
+  printf '%s\n' '[Service]' ExecStart= "ExecStart=/usr/bin/python3 -I /usr/local/lib/$2" \
+    'BindReadOnlyPaths=/usr/bin /usr/lib /lib /lib64 /usr/local/lib' \
+    'SystemCallFilter=@file-system ioctl' >"$machine/root/probe.conf"
+  # (An instance is what the files say when it begins.)
+  does "$1" 'unit=/etc/systemd/system/rooms-would@.service.d
+    python3 -I /usr/local/lib/asks.py 6 >/root/said & sleep 1
+    mkdir -p $unit; cp /root/probe.conf $unit; systemctl daemon-reload
+    python3 -I /usr/local/lib/asks.py 0; wait; head -n 1 /root/said
+    rm -r $unit; systemctl daemon-reload'
+  printf '%s\n' "${@:3}" 'refused: line 1: W3 no folder' >wanted
+  same "$1: what it can do" "$work/out" wanted
+}
+asked_there 'in the place of what says what would come of a change' probe.py ''
+asked_there 'what it can end' signals.py tried
+asked_there 'how much it gets' 'bounds.py 320' 'tasks: 1' '320 MB: no'
 stop_machine

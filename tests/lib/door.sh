@@ -2,13 +2,19 @@
 
 doors=()
 # Where rooms would is asked: a process for each question, as systemd starts it.
-start_would() {
+start_would() { # [PROGRAM]
   [ ! -S run/would ] || return 0
   mkdir -p run
-  python3 "$here/lib/inetd.py" "$PWD/run/would" 8 sh "$here/lib/answer-would.sh" "$rooms" \
+  python3 "$here/lib/inetd.py" "$PWD/run/would" 8 sh "$here/lib/answer-would.sh" "${1:-$rooms}" \
     2>>would.err &
-  others+=($!)
+  answering=$!
+  others+=("$answering")
   until [ -S run/would ]; do sleep 0.02; done
+}
+stop_would() {
+  kill "$answering"
+  wait "$answering" 2>/dev/null
+  rm run/would
 }
 # Starts it, and waits until it listens.
 start_door() { # ROOM ARGUMENT ..

@@ -30,6 +30,12 @@ fi
 find "$services"/rooms_services/{room,door} -name '*.py' -exec wc -l {} + |
   awk '$2 != "total" && $1 >= 500 { print $2 }' >found
 same 'no file has 500 lines' found /dev/null
+# Who may remove what, in every case, as the program has it.
+python3 -B "$here/model/removing.py" "$rooms" >cases 2>"$work/err"
+PYTHONPATH=$services:$repo/admin python3 -B "$here/services/removals.py" <cases >"$work/out" \
+  2>>"$work/err"
+holds "who may remove what: $(tail -n 3 "$work/out" "$work/err")" \
+  grep -qx '864 cases, 512 may, 0 differ' "$work/out"
 for suite in "$here"/services/test_door*.py; do
   (cd "$here/services" &&
     PYTHONPATH=$services:$repo/admin python3 -B -m unittest "$(basename "$suite" .py)") \
@@ -166,6 +172,58 @@ ask 'another list' 204 '' root:r /door/dacl/f -X PUT --data-binary @list -H "If-
 ask 'the first again' 412 - root:r /door/dacl/f -X PUT --data-binary @list -H "If-Match: $tag"
 ask 'who may not set it' 403 - alice:a /door/dacl/f -X PUT --data-binary @list -H 'If-Match: *'
 
+# What would come of a change follows from the question alone, whatever is in it of members, and of
+# a room that bob may not list. It is the same once the room has other lists, and none at all.
+board=$(printf '["/f","folder","%s","%s","no","","no"],' alice '' bob '' eve r olaf r '*' '')
+printf '{"lists":[["/f","list:ap\\nA::bob:r\\n"]],"rows":[%s["/f","folder","%s"]]} 200' "$board" \
+  'ANONYMOUS@","","no","","no' >follows
+printf '%s\n' 'member board olaf' 'member board eve' 'folder alice staff /' list:a A:g:board:rx \
+  'folder alice staff /f' list:ap A:g:board:r 'set /f' list:ap A::bob:r lists >question
+would() { # FILE: what bob is told
+  curl -s -w ' %{http_code}' -u bob:b "$base/door/would" -H Expect: --data-binary "@$1"
+}
+no_answer='{"why":"no-answer"} 503'
+would question >got
+same 'what would come of a change' got follows
+sed 's/^A::bob:r/A:bob:r/' question >wrong
+holds 'a question with a fault' \
+  [ "$(would wrong)" = '{"line":"refused: line 11: A5 not four parts","why":"refused"} 400' ]
+head -c 1048577 /dev/zero >large
+holds 'one that is too large' eval '[[ $(would large) == *" 413" ]]'
+truncate -s 1048576 large
+holds 'one that is as large as can be' \
+  [ "$(would large)" = '{"line":"refused: line 1: W1 no such line","why":"refused"} 400' ]
+ask 'another method' 405 '{"why":"no-method"}' bob:b /door/would
+ask 'a page of another site' 403 - bob:b /door/would -X POST -d x -H 'Sec-Fetch-Site: cross-site'
+ask 'nobody' 401 - '' /door/would -X POST --data-binary @question
+# A part of an answer, from a program that is killed then, or ended after ten seconds.
+cat >slow <<END
+#!/bin/bash
+"$rooms" would | head -n 2
+echo "\$\$" >slow.pid
+exec sleep 60
+END
+chmod 755 slow
+stop_would
+start_would "$PWD/slow"
+would question >got &
+asking=$!
+until [ -s slow.pid ]; do sleep 0.02; done
+kill -9 "$(cat slow.pid)"
+wait "$asking"
+holds "one whose program is killed: $(head -c 200 got)" [ "$(cat got)" = "$no_answer" ]
+began=$SECONDS
+would question >got
+holds "one that takes too long: $(head -c 200 got)" [ "$(cat got)" = "$no_answer" ]
+holds 'ends after ten seconds' [ $((SECONDS - began)) -ge 9 -a $((SECONDS - began)) -le 20 ]
+stop_would
+holds 'nobody there' [ "$(would question)" = "$no_answer" ]
+holds 'who could have changed it is not known' grep -qF '"who":null' \
+  <<<"$(curl -s -u alice:a "$base/door/doc/f/plan" -H 'If-Match: ""')"
+start_would
+would question >got
+same 'and there again' got follows
+
 # Targets, other sites, a full room, and names of routes.
 for target in /door/below/f%2Fplan /door/below/f%00 /door/below/%ff /door/below/a%0d%0ax; do
   ask "the target $target" 400 - root:r "$target"
@@ -286,6 +344,8 @@ ask 'and so does the door' 200 "$number" root:r /door/doc/f/counter
 
 # A room that is stopped, and one that hangs.
 stop_server
+would question >got
+same 'what would come of a change, without a room' got follows
 ask 'no room' 503 '{"why":"no-room"}' root:r /door/below/f
 kill "$door"
 wait "$door" 2>/dev/null

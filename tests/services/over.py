@@ -8,6 +8,7 @@ import threading
 import unittest
 
 from fake_room import FakeRoom, Served
+from fake_would import FakeWould
 from rooms_services.room.room import Room
 from rooms_services.door.folders.would import Would
 from rooms_services.door.serve import Door, opened
@@ -42,7 +43,8 @@ class Over(unittest.TestCase):
         drive = calls.Drive(Kept(self.at("locks")), self.full)
         self.door = Door(Room(self.at("room")), Would(self.at("would")), drive, self.full)
         self.front = opened(self.at("door"), self.door)
-        for server in (self.behind, self.front):
+        self.answering = FakeWould(self.at("would"))
+        for server in (self.behind, self.front, self.answering):
             threading.Thread(target=server.serve_forever, args=(0.01,), daemon=True).start()
             self.addCleanup(server.server_close)
             self.addCleanup(server.shutdown)

@@ -9,7 +9,8 @@ from over import Over
 from rooms_services.room import room
 from rooms_services.door.folders import archive, below, walk
 from rooms_services.door.folders.goes import barrier
-from rooms_services.door.folders.holders import holders
+from rooms_services.door.folders.holders import Listed, holders
+from rooms_services.door.folders.would import Would
 from rooms_services.room.paths import names_in
 from rooms_services.room.room import ROW_BYTES, Ask, rows
 
@@ -367,8 +368,11 @@ class Matched(Over):
     def test_who(self) -> None:
         text = ("list:a\nD::eve:w\nA:fdi:ann:w\nA::OWNER@:w\nA:g:staff:rw\nA::eve:w\n"
                 "A:I:carol:a\nD::EVERYONE@:w\nA::dave:w\nA::GROUP@:a\n")
-        self.assertEqual(holders(text, "wa", "alice", "it"), ["alice", "g:staff", "carol", "g:it"])
-        self.assertEqual(holders(text, "w", None, None), ["OWNER@", "g:staff"])
+        self.assertEqual(holders(self.door.would, Listed(text, "alice", "it"), "wa"),
+                         ["alice", "g:staff", "carol", "g:it"])
+        self.assertEqual(holders(self.door.would, Listed(text, None, None), "w"),
+                         ["OWNER@", "g:staff"])
+        self.assertIsNone(holders(Would(self.at("none")), Listed(text, "alice", "it"), "w"))
 
 
 class Hostile(Over):

@@ -31,9 +31,10 @@ class Would(Over):
         super().setUp()
         self.asked: list[bytes] = []
         self.acts: Acts = says(ROWS + END)
+        self.door.would = would.Would(self.at("answers"))
         self.listener = socket.socket(socket.AF_UNIX)
         self.addCleanup(self.listener.close)
-        self.listener.bind(self.at("would"))
+        self.listener.bind(self.at("answers"))
         self.listener.listen()
         threading.Thread(target=self._answers, daemon=True).start()
 
@@ -110,7 +111,7 @@ class Would(Over):
             self.assertEqual(self.would(question), (503, {"why": "no-answer"}))
         self.listener.close()
         self.assertEqual(self.would(), (503, {"why": "no-answer"}))
-        os.unlink(self.at("would"))
+        os.unlink(self.at("answers"))
         self.assertEqual(self.would(), (503, {"why": "no-answer"}))
 
     def test_time(self) -> None:
@@ -124,7 +125,7 @@ class Would(Over):
 
         def hangs(_: socket.socket) -> None:
             release.wait()
-        self.door.would = would.Would(self.at("would"), 0.3)
+        self.door.would = would.Would(self.at("answers"), 0.3)
         for acts, question in ((drips, b""), (hangs, b""), (hangs, b"x" * 1_048_576)):
             self.acts = acts
             began = time.monotonic()

@@ -73,6 +73,15 @@ same_folded() {
 }
 holds "which names fit a search, by the page and by the door: $(same_folded && echo yes ||
   head -c 600 "$work/out" "$work/err")" grep -q ' 0 differ$' "$work/out"
+# Every case of who may remove what.
+if has python3; then
+  python3 -B "$here/model/removing.py" "$rooms" >cases 2>"$work/err"
+  node "$here/web/removals.mjs" page <cases >"$work/out" 2>>"$work/err"
+  holds "who may remove what: $(tail -n 3 "$work/out" "$work/err")" \
+    grep -qx '864 cases, 512 may, 0 differ' "$work/out"
+else
+  skip 'who may remove what' 'missing: python3'
+fi
 # More than 100,000 answers of the program.
 node_says 'rights, removals and lists, as the program has them' '0 differ' \
   "$here/web/compared.mjs" page "$rooms" "$PWD/compared" 6

@@ -308,11 +308,13 @@ def see_namespaces(room: Room) -> list[Finding]:
     except OSError:
         return []
     units = [room.unit, f"rooms-full@{room.name}",
-             f"rooms-door@{room.name}",
+             f"rooms-door@{room.name}", "rooms-would@",
              *(["rooms-earlier"] if room.shows_nights else []),
              *(["rooms-texts"] if room.search else [])]
+    # Only an instance is known to show.
     want = [one for one in units if printed(
-        ["systemctl", "show", "-p", "PrivateUsers", "--value", one]) not in ("", "no")]
+        ["systemctl", "show", "-p", "PrivateUsers", "--value",
+         f"{one}0" if one.endswith("@") else one]) not in ("", "no")]
     return [(CRITICAL, "this machine allows no namespaces of users, so these can't start: "
              f"{' '.join(want)}: sysctl user.max_user_namespaces")] if want else []
 

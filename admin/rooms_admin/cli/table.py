@@ -14,6 +14,7 @@ KINDS: dict[str, dict[str, str]] = {
     },
     "who may do what, and who did": {
         "who": "who could do what at a place last night, and by which entries",
+        "would": "who could do more or less by a list or a move, before it is made",
         "list": "one list, as it is now, or set without a right",
         "lists": "lists of last night, what names a user or a group",
         "records": "records of last night, of a user or a place",

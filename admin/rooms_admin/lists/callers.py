@@ -9,7 +9,7 @@ from .dump import Object, Pair
 from .reasons import Reason
 from .review import ANONYMOUS, OTHERS, Place, Row
 
-_CALLED = {OTHERS: "every other name", ANONYMOUS: "a caller without a name"}
+CALLED = {OTHERS: "every other name", ANONYMOUS: "a caller without a name"}
 
 
 @dataclass
@@ -23,7 +23,7 @@ class Line:
         by = [it.entry + ("" if it.path == here else f" of {names.shown(it.path)}")
               for it in self.reasons]
         parts = [names.shown(here)] if with_path else []
-        parts += [_CALLED.get(row.user, report.line(row.user)), report.line(row.rights)]
+        parts += [CALLED.get(row.user, report.line(row.user)), report.line(row.rights)]
         parts += ["remove"] if row.remove else [] if row.rights else ["nothing"]
         return "  ".join(one for one in [*parts, f"by {', '.join(by)}" if by else ""] if one)
 
@@ -51,7 +51,7 @@ def at(place: Place, path: str, distinct: bool) -> Iterator[Row]:
     rows = place.at[-1]
     others = rows.get(OTHERS)
     for row in rows.values():
-        if not (distinct and others and row.user not in _CALLED
+        if not (distinct and others and row.user not in CALLED
                 and (row.rights, row.remove) == (others.rights, others.remove)):
             yield row._replace(path=path)
 

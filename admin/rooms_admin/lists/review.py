@@ -21,6 +21,10 @@ class Row(NamedTuple):
     remove: bool
 
 
+def is_caller(text: str) -> bool:
+    return text in (OTHERS, ANONYMOUS) or names.is_user(text)
+
+
 def rows(lines: Iterable[str]) -> Iterator[Row]:
     """A folder's come before those of what is in it."""
     for path, kind, user, rights, remove in texts.fields(lines, _HEADER, "the review"):
@@ -28,7 +32,7 @@ def rows(lines: Iterable[str]) -> Iterator[Row]:
                 or not set(rights) <= names.RIGHTS):
             raise Stop(f"the review can't be read: it says {kind[:80]!a}, {rights[:80]!a} and "
                        f"{remove[:80]!a}")
-        if user not in (OTHERS, ANONYMOUS):
+        if not is_caller(user):
             names.user_in(user, _BAD)
         yield Row(names.path_in(path, _BAD), kind, user, rights, remove == "yes")
 

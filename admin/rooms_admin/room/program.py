@@ -105,6 +105,12 @@ def run(room: Room, words: list[str | bytes], stdin: bytes = b"", as_owner: bool
         cwd: str | None = None) -> tuple[int, bytes, str]:
     """Status, standard output, and what it said, which is standard error."""
     who = user_of(room) if as_owner else None
+    return _run(room, words, who, stdin, megabytes, stdout, pass_fds, cwd)
+
+
+def _run(room: Room, words: list[str | bytes], who: commands.Who | None, stdin: bytes,
+         megabytes: int, stdout: int, pass_fds: tuple[int, ...], cwd: str | None
+         ) -> tuple[int, bytes, str]:
     with _first_to_go():
         child = commands.started([room.program, *words], limits(megabytes), who, stdout=stdout,
                                  pass_fds=pass_fds, cwd=cwd)
@@ -115,6 +121,12 @@ def run(room: Room, words: list[str | bytes], stdin: bytes = b"", as_owner: bool
             _end(child, who)
             raise
     return child.returncode, out or b"", err.decode(errors="backslashreplace").strip()
+
+
+def on_text(room: Room, word: str, text: bytes) -> tuple[int, bytes, str]:
+    """The same of a subcommand that opens no file: by the user of copies, who has none."""
+    return _run(room, [word], as_user_of_copies(room), text, room.memory or 1024, commands.PIPE, (),
+                "/")
 
 
 def _end(child: commands.Child, who: commands.Who | None) -> None:

@@ -109,7 +109,7 @@ def serve(made: Changes, wanted: template.Site) -> None:
     here = any(not one.on for one in wanted.rooms)
     for name, is_wanted in (("password-file", own), ("own-password", own), ("nights", earlier),
                             ("earlier", earlier), ("extract", search), ("texts", search),
-                            ("picture", here)):
+                            ("picture", here), ("would", here)):
         unit = f"rooms-{name}.socket"
         is_on = os.path.islink(f"/etc/systemd/system/sockets.target.wants/{unit}")
         if is_wanted != is_on:

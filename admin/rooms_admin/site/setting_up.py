@@ -74,12 +74,13 @@ def _end(made: Changes, good: bool) -> int:
 
 def _user(made: Changes) -> None:
     """For the servers, mail about them, the check of passwords, users' own changes of theirs,
-    copies, the doors, earlier nights, ports, who waits, texts, and pictures."""
+    copies, the doors, earlier nights, ports, who waits, texts, pictures, and what would come of
+    changes."""
     if made.root:
         return
     for name in ("rooms", "rooms-mail", changes.CHECKER, passwords.KEEPER, runs.COPIES,
                  "rooms-door", "rooms-night", "rooms-earlier", "rooms-port", "rooms-wait",
-                 "rooms-texts", "rooms-extract", "rooms-picture"):
+                 "rooms-texts", "rooms-extract", "rooms-picture", "rooms-would"):
         try:
             getpwnam(name)
         except KeyError:

@@ -1,5 +1,6 @@
 """What lists, who and records share: which backup is read, and whom and what in it is meant."""
 import argparse
+import sys
 
 from ..cli import words
 from ..room import names, settings
@@ -9,6 +10,7 @@ from ..room.http_client import argument
 from ..room.settings import Room
 
 PATH = "a folder or a document of the room"
+_MOST = 1 << 20
 
 
 def arguments(parser: words.Parser) -> None:
@@ -30,6 +32,16 @@ def path(text: str) -> bytes:
         raise Refused("bad arguments: a path in the room begins with a slash and doesn't end with "
                       f"one, unlike '{text}'")
     return found
+
+
+def list_text() -> bytes:
+    """That of standard input."""
+    text = sys.stdin.buffer.read(_MOST + 1) if sys.stdin is not None else b""
+    if not text.strip():
+        raise Refused("no list: standard input has none")
+    if len(text) > _MOST:
+        raise Refused(f"no list: standard input has more than {_MOST} bytes")
+    return text
 
 
 def name(text: str, kind: str = "user") -> str:

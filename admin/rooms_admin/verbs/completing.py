@@ -24,7 +24,8 @@ _OPTIONS = {"--room": "rooms", "-r": "rooms", "--groups": "groups", "--group": "
 _WORDS = {"restore": "backups", "get": "backups", "user remove": "users", "user change": "users",
           "remove": "rooms"}
 # Words of these are no files.
-_NO_FILES = {"add", "certificate", "tell", "set", "lists", "list", "who", "records", "user"}
+_NO_FILES = {"add", "certificate", "tell", "set", "lists", "list", "who", "would", "records",
+             "user"}
 # And these names stand beside files.
 _BESIDE_FILES = {"rooms", "backups"}
 

@@ -8,7 +8,6 @@ above, and isn't set here."""
 import argparse
 import difflib
 import os
-import sys
 
 from ..cli import words
 from ..room import names, private_server, program, server, settings
@@ -18,8 +17,6 @@ from . import asked
 from ..cli.report import Refused, Stop
 from ..room.settings import Room
 from ..lists.entries import is_inherited
-
-_MOST = 1 << 20
 
 
 def arguments(parser: words.Parser) -> None:
@@ -88,11 +85,7 @@ def run(given: argparse.Namespace) -> int:
     which = "sacl" if given.sacl else "dacl"
     text = b""
     if given.what == "set":
-        text = sys.stdin.buffer.read(_MOST + 1) if sys.stdin is not None else b""
-        if not text.strip():
-            raise Refused("no list: standard input has none")
-        if len(text) > _MOST:
-            raise Refused(f"no list: standard input has more than {_MOST} bytes")
+        text = asked.list_text()
     os.umask(0o077)
     os.chdir("/")
     room = settings.room(given.room)

@@ -89,8 +89,8 @@ def _goes(asked: Asked) -> Answer:
 
 
 def _pages(asked: Asked) -> Answer:
-    return page(asked.room, asked.user, asked.names, asked.query, asked.field("If-Match"),
-                asked.pictures)
+    return page(asked.room, asked.would, asked.user, asked.names, asked.query,
+                asked.field("If-Match"), asked.pictures)
 
 
 def _zip(asked: Asked) -> Answer:
@@ -99,15 +99,16 @@ def _zip(asked: Asked) -> Answer:
 
 
 def _read(asked: Asked) -> Answer:
-    return read(asked.room, asked.user, asked.route, asked.names, *asked.conditions())
+    return read(asked.room, asked.would, asked.user, asked.route, asked.names, *asked.conditions())
 
 
 def _tag(asked: Asked) -> Answer:
-    return tag_alone(asked.room, asked.user, asked.route, asked.names, *asked.conditions())
+    return tag_alone(asked.room, asked.would, asked.user, asked.route, asked.names,
+                     *asked.conditions())
 
 
 def _replace(asked: Asked) -> Answer:
-    return replace(asked.room, asked.user, asked.route, asked.names, asked.body,
+    return replace(asked.room, asked.would, asked.user, asked.route, asked.names, asked.body,
                    condition_of(*asked.conditions()))
 
 

@@ -4,7 +4,8 @@ from elsewhere comes before the look or after the change."""
 from dataclasses import dataclass
 
 from ...room.answers import Answer, Stop
-from .holders import holders
+from .holders import Listed, holders
+from .would import Would
 from ...room.paths import Names, shown
 from ...room.room import Reply, Room, Talk, about
 from ...room.tags import of_reading, tag_of, tags_in
@@ -24,6 +25,19 @@ class Condition:
     tags: frozenset[str]
 
 
+class _Changed(Exception):
+    """It isn't what was seen. Who could have changed it is asked once the room is free again."""
+
+    def __init__(self, why: str, at: str, tag: str | None, listed: Listed | None) -> None:
+        super().__init__(why)
+        self.why, self.at, self.tag, self.listed = why, at, tag, listed
+
+    def stop(self, would: Would, route: str) -> Stop:
+        who = holders(would, self.listed, CHANGES[route]) if self.listed else None
+        return Stop(412, self.why, "it isn't the one that was seen any more", self.at,
+                    {"tag": self.tag, "who": who})
+
+
 def condition_of(match: str, none: str) -> Condition:
     if match and none:
         raise Stop(400, "bad-condition", "either If-Match or If-None-Match")
@@ -40,15 +54,19 @@ def condition_of(match: str, none: str) -> Condition:
     return Condition(False, frozenset(tag for weak, tag in named if not weak) or frozenset([""]))
 
 
-def read(room: Room, user: str, route: str, names: Names, match: str, none: str) -> Answer:
-    with room.talk(user) as talk:
-        reply = talk.ask(about("GET", route, names))
-        if reply.status != 200:
-            return reply.answer()
-        tag = tag_of(reply.body)
-        status = of_reading(match, none, tag)
-        if status == 412:
-            raise _changed(talk, route, names, "changed", reply)
+def read(room: Room, would: Would, user: str, route: str, names: Names, match: str, none: str
+         ) -> Answer:
+    try:
+        with room.talk(user) as talk:
+            reply = talk.ask(about("GET", route, names))
+            if reply.status != 200:
+                return reply.answer()
+            tag = tag_of(reply.body)
+            status = of_reading(match, none, tag)
+            if status == 412:
+                raise _changed(talk, names, "changed", reply)
+    except _Changed as changed:
+        raise changed.stop(would, route) from None
     fields = {"ETag": tag, **SAFE}
     if status == 304:
         return Answer(304, fields=fields)
@@ -56,7 +74,8 @@ def read(room: Room, user: str, route: str, names: Names, match: str, none: str)
     return Answer(200, reply.body, kind, fields)
 
 
-def tag_alone(room: Room, user: str, route: str, names: Names, match: str, none: str) -> Answer:
+def tag_alone(room: Room, would: Would, user: str, route: str, names: Names, match: str, none: str
+              ) -> Answer:
     """The same without the bytes, for whoever is about to replace it: it is empty where they may
     not read it, and no record says that they tried."""
     may = room.ask(user, about("GET", "can", names, READING[route]))
@@ -64,24 +83,31 @@ def tag_alone(room: Room, user: str, route: str, names: Names, match: str, none:
         return may.answer()
     if not all(may.rulings().values()):
         return Answer(204)
-    return read(room, user, route, names, match, none)
+    return read(room, would, user, route, names, match, none)
 
 
-def replace(room: Room, user: str, route: str, names: Names, body: bytes,
+def replace(room: Room, would: Would, user: str, route: str, names: Names, body: bytes,
             condition: Condition) -> Answer:
-    with room.talk(user) as talk:
-        stopped = _look(talk, route, names, condition)
-        if stopped is not None:
-            return stopped
-        reply = talk.ask(about("PUT", route, names, body=body))
-        if reply.status not in (201, 204):
-            return reply.answer()
-        now = tag_of(body)
-        if route != "doc":
-            # It has by now what its folder passes down, too.
-            after = talk.ask(about("GET", route, names))
-            now = tag_of(after.body) if after.status == 200 else ""
-        return Answer(reply.status, fields={"ETag": now} if now else {})
+    try:
+        with room.talk(user) as talk:
+            return _replaced(talk, route, names, body, condition)
+    except _Changed as changed:
+        raise changed.stop(would, route) from None
+
+
+def _replaced(talk: Talk, route: str, names: Names, body: bytes, condition: Condition) -> Answer:
+    stopped = _look(talk, route, names, condition)
+    if stopped is not None:
+        return stopped
+    reply = talk.ask(about("PUT", route, names, body=body))
+    if reply.status not in (201, 204):
+        return reply.answer()
+    now = tag_of(body)
+    if route != "doc":
+        # It has by now what its folder passes down, too.
+        after = talk.ask(about("GET", route, names))
+        now = tag_of(after.body) if after.status == 200 else ""
+    return Answer(reply.status, fields={"ETag": now} if now else {})
 
 
 def _look(talk: Talk, route: str, names: Names, condition: Condition) -> Answer | None:
@@ -93,27 +119,25 @@ def _look(talk: Talk, route: str, names: Names, condition: Condition) -> Answer 
         if not is_there and (there.status != 404 or there.at != shown(names)):
             return there.answer()
         if is_there == condition.is_new:
-            raise _changed(talk, route, names, "exists" if is_there else "gone", None)
+            raise _changed(talk, names, "exists" if is_there else "gone", None)
         return None
     seen = talk.ask(about("GET", route, names))
     if seen.status == 404 and seen.at == shown(names):
-        raise _changed(talk, route, names, "gone", None)
+        raise _changed(talk, names, "gone", None)
     if seen.status != 200:
         return seen.answer()
     if tag_of(seen.body) not in condition.tags:
-        raise _changed(talk, route, names, "changed", seen)
+        raise _changed(talk, names, "changed", seen)
     return None
 
 
-def _changed(talk: Talk, route: str, names: Names, why: str, seen: Reply | None) -> Stop:
-    who = None if why == "gone" else _who(talk, route, names)
-    tag = tag_of(seen.body) if seen else None
-    return Stop(412, why, "it isn't the one that was seen any more", shown(names),
-                {"tag": tag, "who": who})
+def _changed(talk: Talk, names: Names, why: str, seen: Reply | None) -> _Changed:
+    return _Changed(why, shown(names), tag_of(seen.body) if seen else None,
+                    None if why == "gone" else _listed(talk, names))
 
 
-def _who(talk: Talk, route: str, names: Names) -> list[str] | None:
-    """Who could have changed it by its list, as far as the caller may read that."""
+def _listed(talk: Talk, names: Names) -> Listed | None:
+    """As far as the caller may read it."""
     may = talk.ask(about("GET", "can", names, "ct")).rulings()
     if not may.get("c"):
         return None
@@ -121,4 +145,4 @@ def _who(talk: Talk, route: str, names: Names) -> list[str] | None:
     if listed.status != 200:
         return None
     attr = talk.ask(about("GET", "attr", names)).told if may.get("t") else {}
-    return holders(listed.body.decode(), CHANGES[route], attr.get("owner"), attr.get("group"))
+    return Listed(listed.body.decode(), attr.get("owner"), attr.get("group"))

@@ -6,6 +6,7 @@ from ...room.answers import Answer, Stop
 from ...room.paths import Names
 from ...room.room import Room
 from .matched import SAFE, read
+from .would import Would
 
 # How long it may take until a process is there, and how long that may take. Its unit ends it
 # before.
@@ -34,13 +35,14 @@ def _refused(told: dict[str, object]) -> Stop:
     return Stop(_STATUS[known], known, more={} if pages is None else {"pages": pages})
 
 
-def page(room: Room, user: str, names: Names, query: str, match: str, place: str) -> Answer:
+def page(room: Room, would: Would, user: str, names: Names, query: str, match: str, place: str
+         ) -> Answer:
     """With the tag of the document, and in `Room-Pages` how many pages it has. 204 where none are
     made: the page then shows it in another way."""
     number = _number(query)
     if not place:
         return Answer(204)
-    seen = read(room, user, "doc", names, match, "")
+    seen = read(room, would, user, "doc", names, match, "")
     if seen.status != 200:
         return seen
     if _BEGINS not in seen.body[:_WITHIN]:

@@ -7,6 +7,7 @@ import csv
 import io
 import re
 import socket
+import threading
 import time
 from collections.abc import Iterator
 from contextlib import suppress
@@ -16,6 +17,8 @@ from ...room.room import MOST_ANSWERED, too_many
 
 # The unit gives it ten, and its start takes some.
 SECONDS = 15.0
+# Of the eight that all rooms have, one has so many at a time.
+MOST = 4
 _HEADER = b"path,kind,user,rights,remove,then,then_remove\n"
 _COLUMNS = _HEADER.count(b",") + 1
 _WHOLE = re.compile(rb"(.+\n)rooms [0-9]+[.0-9]*\n", re.DOTALL)
@@ -33,13 +36,18 @@ class Would:
         """The path of its socket, and how long it may take."""
         self._place = place
         self._seconds = seconds
+        self._free = threading.BoundedSemaphore(MOST)
 
     def ask(self, question: bytes) -> bytes:
         """The rows, and what stands behind them."""
+        if not self._free.acquire(timeout=self._seconds):
+            raise no_answer()
         try:
             found = _WHOLE.fullmatch(self._said(question))
         except OSError:
             found = None
+        finally:
+            self._free.release()
         if found is None:
             raise no_answer()
         answer = found[1]

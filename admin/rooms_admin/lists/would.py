@@ -1,0 +1,149 @@
+"""Who could do more, or less, by a change: a question made of a night's lists, and the answer of
+`rooms would` (docs/would.md), which decides."""
+import io
+import re
+from collections.abc import Iterable, Iterator, Sequence
+from dataclasses import dataclass
+from typing import NamedTuple
+
+from ..backup import texts
+from ..cli import report
+from ..cli.report import Refused, Stop
+from ..room import names, program
+from ..room.settings import Room
+from . import entries, naming
+from .callers import CALLED, encoded
+from .dump import Object, Pair
+from .review import is_caller
+
+_HEADER = "path,kind,user,rights,remove,then,then_remove"
+_BAD = "the answer can't be read"
+_REFUSED = re.compile(r"refused: line ([0-9]+): (.+)\n")
+# What a question has for a line of a list. Others have the fault of one of these two, A1 or A5.
+_OF_A_LIST = re.compile(rb"list:|.:", re.DOTALL)
+_BAD_TYPE, _NOT_FOUR = b":::", b"A:"
+_WIDEST = 60
+
+
+class Row(NamedTuple):
+    path: str
+    kind: str
+    user: str
+    rights: str
+    remove: bool
+    then: str
+    then_remove: bool
+
+    @property
+    def is_same(self) -> bool:
+        return (self.rights, self.remove) == (self.then, self.then_remove)
+
+
+@dataclass(frozen=True)
+class Question:
+    """What there is, and the change, by their lines."""
+    there: list[bytes]
+    change: list[bytes]
+
+    def text(self) -> bytes:
+        return b"".join(line + b"\n" for line in self.there + self.change)
+
+    def refused(self, line: int, why: str) -> Stop:
+        """A line of a change is told as one of the list that it sets."""
+        if line <= len(self.there):
+            return Stop(f"no answer: refused: line {line}: {why}")
+        within = line - len(self.there) - 1
+        return Refused(f"refused: line {within}: {why}" if within and why[0] == "A"
+                       else f"refused: {why}")
+
+
+def set_list(path: bytes, text: bytes) -> list[bytes]:
+    """Each line keeps its number."""
+    lines = (line.removesuffix(b"\r") for line in text.removesuffix(b"\n").split(b"\n"))
+    return [b"set " + path, *map(_line_of_list, lines)]
+
+
+def _line_of_list(line: bytes) -> bytes:
+    if not line.strip(b" \t") or line.startswith(b"#"):
+        return b"#:"
+    if _OF_A_LIST.match(line):
+        return line
+    return _BAD_TYPE if line.count(b":") == 3 else _NOT_FOUR
+
+
+def moved(path: bytes, to: bytes) -> list[bytes]:
+    return [b"move " + path, b"to " + to]
+
+
+def question(rows: Iterable[Object | Pair], path: bytes, to: bytes, change: list[bytes]
+             ) -> Question | None:
+    """Of all that the change is about: the object, what is below it, and what is on the way to it,
+    and to where it is moved. None without the object."""
+    ways, base = {*_way(path), *_way(to)}, path.rstrip(b"/") + b"/"
+    links, is_there = naming.Links(), False
+    members: list[bytes] = []
+    objects: list[bytes] = []
+    for one in rows:
+        if not isinstance(one, Object):
+            members.append(f"member {one[0]} {one[1]}".encode())
+            continue
+        follows = "dacl" in links.of(one)
+        if one.path in ways or one.path.startswith(base):
+            objects += _lines(one, follows)
+            is_there = is_there or one.path == path
+    return Question(members + objects, change) if is_there else None
+
+
+def _way(path: bytes) -> Iterator[bytes]:
+    yield path
+    while path != b"/":
+        path = naming.above(path)
+        yield path
+
+
+def _lines(one: Object, follows: bool) -> list[bytes]:
+    """A list that says nothing of its own is told shortly."""
+    passes = one.kind == "document" or b"a" in one.dacl[0][5:]
+    is_short = follows and passes and all(map(entries.is_inherited, one.dacl[1:]))
+    return [f"{one.kind} {one.owner} {one.group} ".encode() + one.path,
+            *([b"follows"] if is_short else one.dacl)]
+
+
+def answered(room: Room, asked: Question) -> list[Row]:
+    """The first is of the first object. Nothing of the room is needed."""
+    status, out, said = program.on_text(room, "would", asked.text())
+    text = out.decode("utf-8", "surrogateescape")
+    if status == 2 and (found := _REFUSED.fullmatch(text)):
+        raise asked.refused(int(found[1]), found[2])
+    if status != 0:
+        raise Stop(f"no answer: {said or text.strip()[:300] or f'status {status}'}")
+    return list(_rows(io.StringIO(text, newline="")))
+
+
+def _rows(lines: Iterable[str]) -> Iterator[Row]:
+    for path, kind, user, rights, remove, then, then_remove in texts.fields(
+            lines, _HEADER, "the answer"):
+        if kind not in ("folder", "document") or not {remove, then_remove} <= {"yes", "no"} \
+                or not set(rights + then) <= names.RIGHTS or not is_caller(user):
+            raise Stop(f"{_BAD}: {[kind, user, rights, remove, then, then_remove]!a}")
+        yield Row(names.path_in(path, _BAD), kind, user, rights, remove == "yes", then,
+                  then_remove == "yes")
+
+
+def table(rows: Sequence[Row]) -> list[str]:
+    """At the first object those for whom something changes. Further down all of them: each says
+    something else than the one above it."""
+    cells = [(names.shown(encoded(row.path)), CALLED.get(row.user, report.line(row.user)),
+              _may(row.rights, row.remove),
+              "the same" if row.is_same else _may(row.then, row.then_remove))
+             for row in rows if not (row.is_same and row.path == rows[0].path)]
+    if not cells:
+        return ["nobody gains or loses anything"]
+    cells.insert(0, ("path", "who", "before", "then"))
+    widths = [min(_WIDEST, max(map(len, column))) for column in list(zip(*cells))[:3]]
+    return ["  ".join([*(cell.ljust(width) for cell, width in zip(row, widths)), row[3]])
+            for row in cells]
+
+
+def _may(rights: str, remove: bool) -> str:
+    return ", ".join([*([rights] if rights else []), *(["remove"] if remove else [])]) or "nothing"
