@@ -162,6 +162,21 @@ ln -s /etc/shadow "$changes/journal.old"
 checks 'is only looked at' 0 'rooms OK'
 rm -r "$changes"
 
+# Texts for searches, by the names of their nights.
+texts=root/var/cache/rooms-texts/office
+settings SEARCH=yes
+printf '#!/bin/sh\n' >stand/bin/pdftotext
+chmod +x stand/bin/pdftotext
+checks 'no texts yet' 1 'office: no texts are searched yet: systemctl start rooms-nightly@office'
+mkdir -p "$texts/night.$(($(date +%s) - 3600))000" "$texts/night.x" "$texts/new"
+checks 'texts' 0 'rooms OK'
+mv "$texts"/night.1* "$texts/night.$(($(date +%s) - 60 * 3600 - 60))000"
+checks 'old texts' 1 \
+  'office: the texts that are searched are 60 hours old: journalctl -u rooms-texts-night@office'
+rm -r "$texts" stand/bin/pdftotext
+settings
+checks 'where none are searched' 0 'rooms OK'
+
 # A kernel that allows no namespaces of users, which units want.
 mkdir -p root/proc/sys/user
 echo 0 >root/proc/sys/user/max_user_namespaces

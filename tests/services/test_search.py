@@ -98,6 +98,26 @@ class Found(Searching):
         status, said = self.search("word")
         self.assertEqual((status, said["why"]), (404, "no-search"))
 
+    def test_one_search_of_a_user_at_a_time(self) -> None:
+        """While somebody's runs, they list folders, and others search."""
+        begun, goes_on = threading.Semaphore(0), threading.Event()
+
+        def waits(data: bytes, *_: object) -> tuple[State, str]:
+            begun.release()
+            goes_on.wait(60)
+            return State.WHOLE, data.decode("latin-1")
+        with mock.patch.object(feed, "text_of", waits):
+            asked = [threading.Thread(target=self.search, args=("schreiben", "", user))
+                     for user in ("alice", "alice", "bob")]
+            for one in asked:
+                one.start()
+            self.assertTrue(begun.acquire(timeout=60) and begun.acquire(timeout=60))
+            self.assertFalse(begun.acquire(timeout=0.3))
+            self.assertEqual(self.told("/door/closed/f")[0], 200)
+            goes_on.set()
+            for one in asked:
+                one.join()
+
     def test_without_dates(self) -> None:
         """What changed is kept for searches, and isn't shown."""
         self.begin("")
