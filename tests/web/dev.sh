@@ -27,6 +27,8 @@ holds 'what alice sees' grep -q personnel <<<"$(of 0 /folder/)"
 holds 'what bob may not' [ "$(status_of 1 /folder/personnel)" = 403 ]
 holds 'what bob may' [ "$(status_of 1 /doc/letters/new -X PUT --data-binary x)" = 201 ]
 holds 'the door' grep -q '/policies/drafts/Draft 1.txt"' <<<"$(of 1 '/door/find/?draft%201')"
+holds 'the program, before a change' grep -q '"rows":\[\["/","folder","alice"' \
+  <<<"$(of 1 /door/would --data-binary $'folder alice staff /\nlist:a\nlook /')"
 kill "$dev"
 wait "$dev"
 holds 'nothing is left' [ -z "$(find "$work" -maxdepth 1 -name 'rooms-dev-*')" ]
