@@ -1,6 +1,10 @@
 -- A request that is done has the effect of the change that it asks for.
-use Rattle.std.proofs.Common.{◌≡◌, ℕ, ℤ, true, false, List, [], ◌∷◌, length, Option, Some, None}
-use Rattle.std.{proofs.Common.{refl, sym, ap, ◌∙◌}, specs.Option.option_map_or}
+use Rattle.std.proofs.Common.{◌≡◌, ℕ, ℤ, Bool, true, false, ◌&&◌, List, [], ◌∷◌, length, Option}
+use Rattle.std.proofs.{Common.{Some, None, refl, sym, ap, subst, ◌∙◌}, lemmas.Bool.true≢false}
+use Rattle.std.{proofs.lemmas.Option.none-some, specs.{Option.option_map_or, List.find}}
+use Rattle.std.specs.Prelude.{is_none}
+use Rattle.room_entry.specs.{Pieces.same_text, declared.object.ObjKind.ObjKind}
+use Rattle.room_entry.specs.declared.object.ObjKind.TheVariants.{Document, Folder}
 use Rattle.room_entry.specs.declared.{object.Which.TheVariants.{Dacl, Sacl}, parties.Caller.Caller}
 use Rattle.room_eval.specs.{Deletion.deletion, Verdict.verdict}
 use Rattle.room_eval.specs.declared.deletion.DeleteVerdict.{DeleteVerdict, TheVariants.AtParent}
@@ -9,122 +13,149 @@ use Rattle.room_eval.specs.declared.deletion.DeleteVerdict.TheVariants.{Granted 
 use Rattle.room_eval.specs.declared.outcome.Verdict.{Verdict, TheVariants.Denied as DeniedWith}
 use Rattle.room_eval.specs.declared.outcome.Verdict.TheVariants.{Granted}
 use Rattle.room_rows.specs.declared.node.{AuditRow.AuditRow, Node.Node, Walk.Walk}
-use Rattle.room_rows.specs.{Content.{Content, child_of, root_of, with_records}, Walk.behind}
-use Rattle.room_rows.specs.Walk.{walk_from, walk_of}
-use Rattle.room_machine.specs.declared.reply.Reply.{Reply, TheVariants.Done}
+use Rattle.room_rows.specs.Content.{Content, child_of, root_of, with_records, has_parent, with_body}
+use Rattle.room_rows.specs.{Content.with_node, Walk.{behind, walk_from, walk_of}}
+use Rattle.room_machine.specs.declared.reply.Reply.{Reply, TheVariants.{Done, Made}}
 use Rattle.room_machine.specs.declared.request.Request.{Request, TheVariants.{Append, Can}}
 use Rattle.room_machine.specs.declared.request.Request.TheVariants.{List as ListFolder, MakeFolder}
 use Rattle.room_machine.specs.declared.request.Request.TheVariants.{Move, Put, Read, ReadAttr}
 use Rattle.room_machine.specs.declared.request.Request.TheVariants.{ReadList, Remove, SetList}
 use Rattle.room_machine.specs.{declared.request.Request.TheVariants.SetOwners, Effect.effect}
-use Rattle.room_machine.specs.Judge.{failure, first_failure, of_deletion, of_verdict, or_else}
-use Rattle.room_machine.specs.{Judge.records_of_plan, Plan.{Check, Deletion, Item, Refusal}}
-use Rattle.room_machine.specs.{Plan.plan_of, Site.{Site, full_at, sites_of}, Step.{Step, caller_in}}
-use Rattle.room_machine.specs.Step.{done_with_records, failure_or}
-use Rattle.room_change.specs.Changes.{Change, change_of, changed, grant_along, grant_at}
-use Rattle.room_change.specs.Laws.{AfterTheRequest}
+use Rattle.room_machine.specs.{Effect.{new_node, put_bytes}, Judge.{failure, first_failure}}
+use Rattle.room_machine.specs.Judge.{of_deletion, of_verdict, or_else, records_of_plan}
+use Rattle.room_machine.specs.{Plan.{Check, Deletion, Item, Refusal, plan_of}, Site.{Site, full_at}}
+use Rattle.room_machine.specs.Site.{sites_of, last_name, parent_at, site_at, sites_along}
+use Rattle.room_machine.specs.Step.{Step, caller_in, IsFree, done_with_records, failure_or}
+use Rattle.room_change.specs.Changes.{Change, Comes, change_of, changed, grant_along, grant_at}
+use Rattle.room_change.specs.Laws.{AfterTheMaking, AfterTheRequest, made_by}
 
--- ---- records grant nothing
+-- ---- objects alone grant
 
-module _ (room : Content) (records : List AuditRow) where
-  walk_noted : (names : List (List ℕ)) (node : Node)
-      → walk_from (with_records room records) node names ≡ walk_from room node names
-  walk_noted [] node = refl
-  walk_noted (name ∷ names) node =
-      on (child_of room node.id name) (λ child. walk_noted names child)
+module _ (one other : Content) (same : other.nodes ≡ one.nodes) where
+  child_same : (id : ℕ) (name : List ℕ) → child_of other id name ≡ child_of one id name
+  child_same id name =
+      ap (find (λ (node : Node). has_parent id node && same_text node.name name)) same
+
+  walk_same : (names : List (List ℕ)) (node : Node)
+      → walk_from other node names ≡ walk_from one node names
+  walk_same [] node = refl
+  walk_same (name ∷ names) node =
+      ap (λ o. option_map_or (λ child. behind node (walk_from other child names)) o
+      (record { chain = node ∷ []; rest = length (name ∷ names) })) (child_same node.id name)
+      ∙ on (child_of one node.id name) (λ child. walk_same names child)
     where
       on : (o : Option Node)
-          → ((child : Node)
-          → walk_from (with_records room records) child names ≡ walk_from room child names)
-          → option_map_or
-          (λ child. behind node (walk_from (with_records room records) child names)) o
+          → ((child : Node) → walk_from other child names ≡ walk_from one child names)
+          → option_map_or (λ child. behind node (walk_from other child names)) o
           (record { chain = node ∷ []; rest = length (name ∷ names) })
-          ≡ option_map_or (λ child. behind node (walk_from room child names)) o
+          ≡ option_map_or (λ child. behind node (walk_from one child names)) o
           (record { chain = node ∷ []; rest = length (name ∷ names) })
       on None next = refl
       on (Some child) next = ap (λ (w : Walk). behind node w) (next child)
 
-  walks_noted : (path : List (List ℕ))
-      → walk_of (with_records room records) path ≡ walk_of room path
-  walks_noted path = on (root_of room)
+  walks_same : (path : List (List ℕ)) → walk_of other path ≡ walk_of one path
+  walks_same path =
+      ap walk_on (ap (find (λ (node : Node). is_none node.parent)) same) ∙ on (root_of one)
     where
-      on : (o : Option Node)
-          → option_map_or (λ root. walk_from (with_records room records) root path) o
+      walk_on : Option Node → Walk
+      walk_on o =
+          option_map_or (λ root. walk_from other root path) o
           (record { chain = []; rest = length path })
-          ≡ option_map_or (λ root. walk_from room root path) o
+
+      on : (o : Option Node)
+          → walk_on o ≡ option_map_or (λ root. walk_from one root path) o
           (record { chain = []; rest = length path })
       on None = refl
-      on (Some root) = walk_noted path root
+      on (Some root) = walk_same path root
 
-  grant_noted : (caller : Caller) (path : List (List ℕ))
-      → grant_at (with_records room records) caller path ≡ grant_at room caller path
-  grant_noted caller path =
-      ap (λ (w : Walk). grant_along caller (sites_of w.chain) path) (walks_noted path)
+  -- where the objects are the same, each caller may do the same
+  pub grant_same : (caller : Caller) (path : List (List ℕ))
+      → grant_at other caller path ≡ grant_at one caller path
+  grant_same caller path =
+      ap (λ (w : Walk). grant_along caller (sites_of w.chain) path) (walks_same path)
 
--- ---- a failure isn't done
+-- ---- a failure carries nothing out
 
-of_check : (site : Site) (v : Verdict) → of_verdict site v ≡ Some Done → ⊥
-of_check site Granted is = let wrong : ⊥ = cc in wrong
-of_check site (DeniedWith bits place) is = let wrong : ⊥ = cc in wrong
+abbrev is_carried : Reply → Bool
+is_carried Done = true
+is_carried Made = true
+is_carried _ = false
 
-of_removal : (target parent : Site) (v : DeleteVerdict) → of_deletion target parent v ≡ Some Done
-    → ⊥
-of_removal target parent (MayDelete by_add) is = let wrong : ⊥ = cc in wrong
-of_removal target parent (AtTarget place) is = let wrong : ⊥ = cc in wrong
-of_removal target parent (AtParent bits place) is = let wrong : ⊥ = cc in wrong
+abbrev carried : Option Reply → Bool
+carried o = option_map_or is_carried o false
+
+of_check : (site : Site) (v : Verdict) → carried (of_verdict site v) ≡ false
+of_check site Granted = refl
+of_check site (DeniedWith bits place) = refl
+
+of_removal : (target parent : Site) (v : DeleteVerdict)
+    → carried (of_deletion target parent v) ≡ false
+of_removal target parent (MayDelete by_add) = refl
+of_removal target parent (AtTarget place) = refl
+of_removal target parent (AtParent bits place) = refl
 
 module _ (caller : Caller) where
-  of_item : (item : Item) → failure caller item ≡ Some Done → ⊥
-  of_item (Check site bits) is =
-      of_check site (verdict (full_at Dacl site) caller site.node.owners bits) is
-  of_item (Deletion target parent) is =
+  of_item : (item : Item) → carried (failure caller item) ≡ false
+  of_item (Check site bits) =
+      of_check site (verdict (full_at Dacl site) caller site.node.owners bits)
+  of_item (Deletion target parent) =
       of_removal target parent
       (deletion (full_at Dacl target) target.node.owners (full_at Dacl parent) parent.node.owners
-      caller) is
-  of_item (Refusal path why true) is = let wrong : ⊥ = cc in wrong
-  of_item (Refusal path why false) is = let wrong : ⊥ = cc in wrong
+      caller)
+  of_item (Refusal path why true) = refl
+  of_item (Refusal path why false) = refl
 
-  never_done : (items : List Item) → first_failure caller items ≡ Some Done → ⊥
-  never_done [] is = let wrong : ⊥ = cc in wrong
-  never_done (item ∷ items) is =
-      on (failure caller item) (of_item item) (never_done items) is
+  none_carried : (items : List Item) → carried (first_failure caller items) ≡ false
+  none_carried [] = refl
+  none_carried (item ∷ items) = on (failure caller item) (of_item item) (none_carried items)
     where
-      on : (o : Option Reply) → (o ≡ Some Done → ⊥)
-          → (first_failure caller items ≡ Some Done → ⊥)
-          → or_else o (first_failure caller items) ≡ Some Done → ⊥
-      on None one others same = others same
-      on (Some reply) one others same = one same
+      on : (o : Option Reply) → carried o ≡ false → carried (first_failure caller items) ≡ false
+          → carried (or_else o (first_failure caller items)) ≡ false
+      on None one others = others
+      on (Some reply) one others = one
 
 -- ---- so it has its effect
 
 module _ (room : Content) (caller : Caller) (items : List Item) (records : List AuditRow)
-    (done : Reply × Content) (after : Content) where
-  effect_of : (o : Option Reply) → first_failure caller items ≡ o
-      → done_with_records (failure_or o room done) records ≡ (Done, after)
-      → with_records done.1 records ≡ after
-  effect_of None found is = ap (λ (p : Reply × Content). p.1) is
-  effect_of (Some reply) found is =
-      absurd (never_done caller items (found ∙ ap (λ (p : Reply × Content). Some p.0) is))
+    (done : Reply × Content) (reply : Reply) (after : Content) (is_one : is_carried reply ≡ true)
+  where
+    effect_of : (o : Option Reply) → first_failure caller items ≡ o
+        → done_with_records (failure_or o room done) records ≡ (reply, after)
+        → (done.0 ≡ reply) × (with_records done.1 records ≡ after)
+    effect_of None found is =
+        (ap (λ (p : Reply × Content). p.0) is, ap (λ (p : Reply × Content). p.1) is)
+    effect_of (Some refusal) found is =
+        absurd (true≢false (sym is_one ∙ ap is_carried (sym (ap (λ (p : Reply × Content). p.0) is))
+        ∙ ap carried (sym found) ∙ none_carried caller items))
 
-  grants_then : done_with_records (failure_or (first_failure caller items) room done) records
-      ≡ (Done, after) → (other : Caller) (path : List (List ℕ))
-      → grant_at after other path ≡ grant_at done.1 other path
-  grants_then is other path =
-      ap (λ (c : Content). grant_at c other path)
-      (sym (effect_of (first_failure caller items) refl is))
-      ∙ grant_noted done.1 records other path
+    carried_out : done_with_records (failure_or (first_failure caller items) room done) records
+        ≡ (reply, after) → (done.0 ≡ reply) × ((other : Caller) (path : List (List ℕ))
+        → grant_at after other path ≡ grant_at done.1 other path)
+    carried_out is =
+        let both = effect_of (first_failure caller items) refl is in (
+          both.0,
+          λ other path.
+              ap (λ (c : Content). grant_at c other path) (sym both.1)
+              ∙ grant_same done.1 (with_records done.1 records) refl other path,
+        )
 
 module _ (room : Content) (user : Option (List ℕ)) (moment : ℤ) (after : Content) where
+  abbrev by : ℕ → Request → Reply × Content
+  by id request = effect room (caller_in room user) id request
+
+  has_effect : (request : Request) (reply : Reply) → is_carried reply ≡ true
+      → (step : Step room user moment request reply after) → ((by step.0 request).0 ≡ reply)
+      × ((other : Caller) (path : List (List ℕ))
+      → grant_at after other path ≡ grant_at (by step.0 request).1 other path)
+  has_effect request reply is step =
+      carried_out room (caller_in room user) (plan_of room request)
+      (records_of_plan (caller_in room user) moment (plan_of room request))
+      (by step.0 request) reply after is step.2
+
   asked : (request : Request) → Step room user moment request Done after → (other : Caller)
       (path : List (List ℕ)) → (id : ℕ)
-      × (grant_at after other path
-      ≡ grant_at (effect room (caller_in room user) id request).1 other path)
-  asked request step other path = (
-    step.0,
-    grants_then room (caller_in room user) (plan_of room request)
-        (records_of_plan (caller_in room user) moment (plan_of room request))
-        (effect room (caller_in room user) step.0 request) after step.2 other path,
-  )
+      × (grant_at after other path ≡ grant_at (by id request).1 other path)
+  asked request step other path = (step.0, (has_effect request Done refl step).1 other path)
 
   wrong_change : (change : Change) → None ≡ Some change → ⊥
   wrong_change change is = cc
@@ -155,3 +186,90 @@ module _ (room : Content) (user : Option (List ℕ)) (moment : ℤ) (after : Con
 pub after_the_request : AfterTheRequest
 after_the_request room user moment request change after is step caller path =
     by_request room user moment after request change is step caller path
+
+-- ---- an object that is made
+
+module _ (room : Content) (user : Option (List ℕ)) (moment : ℤ) (after : Content) where
+  abbrev maker : Caller
+  maker = caller_in room user
+
+  not_done : (Done ≡ Made) → ⊥
+  not_done is = let wrong : ⊥ = cc in wrong
+
+  -- it came to its folder
+  abbrev CameInto : List (List ℕ) → ObjKind → Type 0
+  CameInto path kind =
+      (folder : Site) × (parent_at (sites_along room path) path ≡ Some folder)
+      × ((id : ℕ) × IsFree room id × ((caller : Caller) (at : List (List ℕ))
+      → grant_at after caller at
+      ≡ grant_at (changed room (Comes path
+      (new_node id maker kind folder (last_name path)))) caller at))
+
+  abbrev Came : Option (List (List ℕ) × ObjKind) → Type 0
+  Came None = Unit {0}
+  Came (Some it) = CameInto it.0 it.1
+
+  came_with : (path : List (List ℕ)) (kind : ObjKind) (id : ℕ) → IsFree room id
+      → (becomes : Site → Content)
+      → ((folder : Site) → (becomes folder).nodes
+      ≡ (with_node room (new_node id maker kind folder (last_name path))).nodes)
+      → (o : Option Site) → parent_at (sites_along room path) path ≡ o
+      → (option_map_or {U = Reply × Content} (λ folder. (Made, becomes folder)) o (Done, room)).0
+      ≡ Made
+      → ((caller : Caller) (at : List (List ℕ)) → grant_at after caller at
+      ≡ grant_at (option_map_or {U = Reply × Content} (λ folder. (Made, becomes folder)) o
+      (Done, room)).1 caller at) → CameInto path kind
+  came_with path kind id free becomes same None at is grants = absurd (not_done is)
+  came_with path kind id free becomes same (Some folder) at is grants = (
+    folder,
+    at,
+    (
+      id,
+      free,
+      λ caller to.
+          grants caller to
+          ∙ grant_same (with_node room (new_node id maker kind folder (last_name path)))
+          (becomes folder) (same folder) caller to,
+    ),
+  )
+
+  made_so : (request : Request) (path : List (List ℕ)) (kind : ObjKind)
+      → made_by request ≡ Some (path, kind) → Step room user moment request Made after
+      → CameInto path kind
+  made_so (Put to bytes) path kind is step =
+      let both = has_effect room user moment after (Put to bytes) Made refl step in
+      subst Came is
+      (on (site_at (sites_along room to) to) both.0 both.1)
+    where
+      put : Option Site → Reply × Content
+      put o = put_bytes room maker step.0 to bytes o (parent_at (sites_along room to) to)
+
+      on : (o : Option Site) → (put o).0 ≡ Made
+          → ((caller : Caller) (at : List (List ℕ))
+          → grant_at after caller at ≡ grant_at (put o).1 caller at) → CameInto to Document
+      on (Some target) made grants = absurd (not_done made)
+      on None made grants =
+          came_with to Document step.0 step.1
+          (λ folder. with_body (with_node room
+          (new_node step.0 maker Document folder (last_name to))) step.0 bytes) (λ folder. refl)
+          (parent_at (sites_along room to) to) refl made grants
+  made_so (MakeFolder to) path kind is step =
+      let both = has_effect room user moment after (MakeFolder to) Made refl step in
+      subst Came is
+      (came_with to Folder step.0 step.1
+      (λ folder. with_node room (new_node step.0 maker Folder folder (last_name to)))
+      (λ folder. refl) (parent_at (sites_along room to) to) refl both.0 both.1)
+  made_so (Read to) path kind is step = absurd (none-some _ is)
+  made_so (ListFolder to) path kind is step = absurd (none-some _ is)
+  made_so (Append to bytes) path kind is step = absurd (none-some _ is)
+  made_so (Remove to) path kind is step = absurd (none-some _ is)
+  made_so (Move at to) path kind is step = absurd (none-some _ is)
+  made_so (ReadList to which) path kind is step = absurd (none-some _ is)
+  made_so (SetList to which sent) path kind is step = absurd (none-some _ is)
+  made_so (ReadAttr to) path kind is step = absurd (none-some _ is)
+  made_so (SetOwners to owners) path kind is step = absurd (none-some _ is)
+  made_so (Can to mask) path kind is step = absurd (none-some _ is)
+
+pub after_the_making : AfterTheMaking
+after_the_making room user moment request path kind after is step =
+    made_so room user moment after request path kind is step

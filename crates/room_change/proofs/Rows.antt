@@ -1,11 +1,10 @@
 -- The nearest row says what changes at an object.
-use Rattle.std.proofs.Common.{◌≡◌, ℕ, Bool, true, false, cond, not, List, [], ◌∷◌, Some}
-use Rattle.std.proofs.{Common.{◌++◌, ◌||◌, ◌&&◌, None, refl, sym, ap, subst, ◌∙◌, append_assoc}}
+use Rattle.std.proofs.Common.{◌≡◌, ℕ, Bool, true, false, cond, not, List, [], ◌∷◌, Some, ◌++◌, ◌||◌}
+use Rattle.std.proofs.Common.{◌&&◌, None, refl, sym, ap, subst, ◌∙◌, append_assoc}
 use Rattle.std.proofs.lemmas.{Bool.{and_parts, false≢true}, List.append-nil}
 use Rattle.room_entry.{specs.Pieces.same_text, proofs.Texts.same_text-true}
 use Rattle.room_change.specs.Changes.{Turn, differs, nearest, rows_down, says_same, turn_at}
-use Rattle.room_change.specs.Changes.{turns_down}
-use Rattle.room_change.specs.{Changes.same_turn, Laws.NearestRowSays}
+use Rattle.room_change.specs.{Changes.{turns_down, same_turn}, Laws.NearestRowSays}
 
 same_flags : (a b : Bool) → cond a b (not b) ≡ true → a ≡ b
 same_flags true true is = refl

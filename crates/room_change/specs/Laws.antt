@@ -1,16 +1,20 @@
 -- Laws of changes (own).
-use Rattle.std.specs.Prelude.{◌≡◌, ℕ, ℤ, true, false, List, [], ◌∷◌, ◌++◌, Option, Some}
+use Rattle.std.specs.Prelude.{◌≡◌, ℕ, ℤ, true, false, List, [], ◌∷◌, ◌++◌, Option, Some, None}
+use Rattle.room_entry.specs.declared.object.ObjKind.{ObjKind}
+use Rattle.room_entry.specs.declared.object.ObjKind.TheVariants.{Document, Folder}
 use Rattle.room_entry.specs.declared.object.Which.TheVariants.{Dacl}
 use Rattle.room_entry.specs.declared.parties.Caller.{Caller}
 use Rattle.room_rows.specs.declared.node.Node.{Node}
 use Rattle.room_rows.specs.Content.{Content}
 use Rattle.room_rows.specs.Held.{is_linked}
-use Rattle.room_machine.specs.declared.reply.Reply.TheVariants.{Done}
+use Rattle.room_machine.specs.declared.reply.Reply.TheVariants.{Done, Made}
 use Rattle.room_machine.specs.declared.request.Request.{Request}
+use Rattle.room_machine.specs.declared.request.Request.TheVariants.{MakeFolder, Put}
+use Rattle.room_machine.specs.Effect.{new_node}
 use Rattle.room_machine.specs.Rights.{may_remove, rights}
-use Rattle.room_machine.specs.Site.{Site, full_at, site_below, sites_along}
-use Rattle.room_machine.specs.Step.{Step}
-use Rattle.room_change.specs.Changes.{Change, change_of, changed, differs, grant_at, nearest}
+use Rattle.room_machine.specs.Site.{Site, full_at, last_name, parent_at, site_below, sites_along}
+use Rattle.room_machine.specs.Step.{IsFree, Step, caller_in}
+use Rattle.room_change.specs.Changes.{Change, Comes, change_of, changed, differs, grant_at, nearest}
 use Rattle.room_change.specs.Changes.{rows_down, turn_at, turns_down}
 
 -- After a request that was done, each caller may do at each path what it may do after the change
@@ -21,6 +25,25 @@ AfterTheRequest =
     (after : Content) → change_of request ≡ Some change → Step room user moment request Done after
     → (caller : Caller) (path : List (List ℕ))
     → grant_at after caller path ≡ grant_at (changed room change) caller path
+
+-- where a request makes an object, if it may, and of which kind
+abbrev pub made_by : Request → Option (List (List ℕ) × ObjKind)
+made_by (Put path bytes) = Some (path, Document)
+made_by (MakeFolder path) = Some (path, Folder)
+made_by _ = None
+
+-- After a request that made an object, each caller may do at each path what it may do after the
+-- coming of that object: a new one in the folder of its path, by a number that was free.
+abbrev pub AfterTheMaking : Type 0
+AfterTheMaking =
+    (room : Content) (user : Option (List ℕ)) (moment : ℤ) (request : Request)
+    (path : List (List ℕ)) (kind : ObjKind) (after : Content) → made_by request ≡ Some (path, kind)
+    → Step room user moment request Made after
+    → (folder : Site) × (parent_at (sites_along room path) path ≡ Some folder)
+    × ((id : ℕ) × IsFree room id × ((caller : Caller) (at : List (List ℕ))
+    → grant_at after caller at
+    ≡ grant_at (changed room (Comes path
+    (new_node id (caller_in room user) kind folder (last_name path)))) caller at))
 
 -- ---- pieces
 

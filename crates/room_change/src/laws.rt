@@ -1,12 +1,17 @@
 //! Laws of changes: what is worked out of a piece of a room, before a request, is what holds in the
 //! room after it.
-ghost use Rattle.room_change.specs.Laws.{AfterTheRequest, APieceSaysAsMuch, LikeOnesAreAlike};
-ghost use Rattle.room_change.specs.Laws.{NearestRowSays};
+ghost use Rattle.room_change.specs.Laws.{AfterTheMaking, AfterTheRequest, APieceSaysAsMuch};
+ghost use Rattle.room_change.specs.Laws.{LikeOnesAreAlike, NearestRowSays};
 
 /// After a request that sets a dacl or moves, each caller may do what it may do after the change
 /// that was asked for.
 pub fn after_the_request()
     ensures { AfterTheRequest }
+{}
+
+/// After a request that made an object, each caller may do what it may do after that object came.
+pub fn after_the_making()
+    ensures { AfterTheMaking }
 {}
 
 /// A piece of a room that has the objects on the way to a path says of each caller there what the
