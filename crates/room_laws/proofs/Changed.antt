@@ -172,43 +172,48 @@ module _ (a : Content) (numbered : IsNumbered a) where
         if same_names q path then with_held which held node else
         if is_child q then with_held which (keep node) node else node
 
-    pub list_view : (which : Which) (held : Held) (keep : Node → Held)
-        → ((n : Node) → keep n ≡ keep (unnumbered n)) → (q : List (List ℕ))
-        → view (with_node (with_each a (change which keep target.id))
-        (with_held which held target)) q
-        ≡ option_map (λ (v : Seen). (relisted which held keep q v.0, v.1)) (view a q)
-    list_view which held keep unseen q =
-        cc (
-          overwritten,
-          put_only (with_each a ch) (rises-with_each a ch (keeps_places a ch places) numbered)
-              (ch target) now (with_held which held) (place-with_held which held),
-          with_each-with_each a ch (only (ch target).id (with_held which held)),
-          each_view a both both_places (relisted which held keep) known q,
-        )
-      where
-        ch : Node → Node
-        ch n = change which keep target.id n
+    module _ (which : Which) (held : Held) (keep : Node → Held) where
+      abbrev ch : Node → Node
+      ch n = change which keep target.id n
 
-        places : (n : Node) → IsSamePlace (ch n) n
-        places = change_place which keep target.id
+      places : (n : Node) → IsSamePlace (ch n) n
+      places = change_place which keep target.id
 
-        now : node_at (with_each a ch) (ch target).id ≡ Some (ch target)
-        now =
-            cc (
-              (places target).number,
-              node_at-with_each a ch (keeps_places a ch places) target.id,
-              there,
-            )
+      now : node_at (with_each a ch) (ch target).id ≡ Some (ch target)
+      now =
+          cc (
+            (places target).number,
+            node_at-with_each a ch (keeps_places a ch places) target.id,
+            there,
+          )
 
-        overwritten : with_held which held (ch target) ≡ with_held which held target
-        overwritten = grind (arith, nat_tests)
+      overwritten : with_held which held (ch target) ≡ with_held which held target
+      overwritten = grind (arith, nat_tests)
 
-        both : Node → Node
-        both n = only (ch target).id (with_held which held) (ch n)
+      -- what becomes of each object
+      abbrev pub both : Node → Node
+      both n = only (ch target).id (with_held which held) (ch n)
 
-        both_places : (n : Node) → IsSamePlace (both n) n
-        both_places n = grind (arith, nat_tests, ch, only_place, place-with_held, places)
+      pub both_places : (n : Node) → IsSamePlace (both n) n
+      both_places n = grind (arith, nat_tests, ch, only_place, place-with_held, places)
 
-        known : (p : List (List ℕ)) (n : Node) → found a p ≡ Some n
-            → unnumbered (both n) ≡ relisted which held keep p (unnumbered n)
-        known p n is = grind (arith, nat_tests, child_path, number_path, same_names)
+      pub list_each : with_node (with_each a (change which keep target.id))
+          (with_held which held target) ≡ with_each a both
+      list_each =
+          cc (
+            overwritten,
+            put_only (with_each a ch) (rises-with_each a ch (keeps_places a ch places) numbered)
+                (ch target) now (with_held which held) (place-with_held which held),
+            with_each-with_each a ch (only (ch target).id (with_held which held)),
+          )
+
+      pub list_view : ((n : Node) → keep n ≡ keep (unnumbered n)) → (q : List (List ℕ))
+          → view (with_node (with_each a (change which keep target.id))
+          (with_held which held target)) q
+          ≡ option_map (λ (v : Seen). (relisted which held keep q v.0, v.1)) (view a q)
+      list_view unseen q =
+          cc (list_each, each_view a both both_places (relisted which held keep) known q)
+        where
+          known : (p : List (List ℕ)) (n : Node) → found a p ≡ Some n
+              → unnumbered (both n) ≡ relisted which held keep p (unnumbered n)
+          known p n is = grind (arith, nat_tests, child_path, number_path, same_names)

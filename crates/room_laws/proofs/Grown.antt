@@ -159,7 +159,7 @@ module _ (a : Content) (numbered : IsNumbered a) (name : List ℕ) (names : List
       (grind (arith, nat_tests, has_its_parent, text_itself))
       (cc (at, found_snoc a (front path) last, split_last name names, absent))
 
-  found_new : found grown path ≡ Some new
+  pub found_new : found grown path ≡ Some new
   found_new =
       cc (
         split_last name names,
@@ -169,7 +169,7 @@ module _ (a : Content) (numbered : IsNumbered a) (name : List ℕ) (names : List
         child_new,
       )
 
-  none_below : (x : List ℕ) → child_of grown new.id x ≡ None
+  pub none_below : (x : List ℕ) → child_of grown new.id x ≡ None
   none_below x =
       kept.find-put (is_named new.id x) new a.nodes fails (fails_new (is_named new.id x))
       ∙ orphans x
@@ -178,7 +178,7 @@ module _ (a : Content) (numbered : IsNumbered a) (name : List ℕ) (names : List
       fails = grind (arith, nat_tests, found_there, free_none, is_named, parent_is)
 
   -- at each other path the same is found
-  grown_other : (q : List (List ℕ)) → (q ≡ path → ⊥) → found grown q ≡ found a q
+  pub grown_other : (q : List (List ℕ)) → (q ≡ path → ⊥) → found grown q ≡ found a q
   grown_other q other = on (goes_on path q)
     where
       beyond : (rest : List (List ℕ)) → q ≡ path ++ rest → found grown q ≡ found a q

@@ -96,7 +96,7 @@ module _ (a : Content) (numbered : IsNumbered a) (apart : are_names_apart a.node
       (fails_moved (λ (n : Node). is_none n.parent)
       (ap is_none (its_parent a numbered name names target at from above)))
 
-  moved_apart : (q : List (List ℕ)) → (GoesOn old_path q → ⊥) → (GoesOn new_path q → ⊥)
+  pub moved_apart : (q : List (List ℕ)) → (GoesOn old_path q → ⊥) → (GoesOn new_path q → ⊥)
       → found moved q ≡ found a q
   moved_apart q not_old not_new =
       walk_same a moved root_moved Ok step_other q
@@ -117,7 +117,7 @@ module _ (a : Content) (numbered : IsNumbered a) (apart : are_names_apart a.node
         | inr isnt ↦ isnt
       ]
 
-  found_old : (rest : List (List ℕ)) → found moved (old_path ++ rest) ≡ None
+  pub found_old : (rest : List (List ℕ)) → found moved (old_path ++ rest) ≡ None
   found_old rest =
       cc (
         found_append moved old_path rest,
@@ -143,7 +143,7 @@ module _ (a : Content) (numbered : IsNumbered a) (apart : are_names_apart a.node
         absent,
       ))
 
-  found_new : found moved new_path ≡ Some new
+  pub found_new : found moved new_path ≡ Some new
   found_new =
       cc (
         split_last first more,
@@ -154,7 +154,7 @@ module _ (a : Content) (numbered : IsNumbered a) (apart : are_names_apart a.node
       )
 
   -- what was below it is below it
-  found_below : (x : List ℕ) (rest : List (List ℕ))
+  pub found_below : (x : List ℕ) (rest : List (List ℕ))
       → found moved (new_path ++ x ∷ rest) ≡ found a (old_path ++ x ∷ rest)
   found_below x rest =
       found_append moved new_path (x ∷ rest)

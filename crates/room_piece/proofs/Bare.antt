@@ -56,13 +56,13 @@ abbrev set_by : List (List ℕ) → Sent → List Site → Content → Option Si
 set_by path sent sites room found = (option_map_or {U = Reply × Content}
     (λ target. (Done, set_list room Dacl sent (parent_at sites path) target)) found (Done, room)).1
 
-abbrev move_by : List (List ℕ) → Content → Option Site → Option Site → Content
+abbrev pub move_by : List (List ℕ) → Content → Option Site → Option Site → Content
 move_by to room found folder = (option_map_or {U = Reply × Content}
     (λ target. option_map_or {U = Reply × Content}
     (λ above. (Done, with_node room (moved_node target above (last_name to)))) folder (Done, room))
     found (Done, room)).1
 
-set_bare : (room : Content) (path : List (List ℕ)) (sent : Sent)
+pub set_bare : (room : Content) (path : List (List ℕ)) (sent : Sent)
     → changed (bare room) (Sets path sent) ≡ bare (changed room (Sets path sent))
 set_bare room path sent =
     ap (λ sites. set_by path sent sites (bare room) (site_at sites path)) (sites_bare room path)
@@ -74,7 +74,7 @@ set_bare room path sent =
     on None = refl
     on (Some target) = refl
 
-move_bare : (room : Content) (path to : List (List ℕ))
+pub move_bare : (room : Content) (path to : List (List ℕ))
     → changed (bare room) (Moves path to) ≡ bare (changed room (Moves path to))
 move_bare room path to =
     ap (λ sites. move_by to (bare room) (site_at sites path)
@@ -89,7 +89,7 @@ move_bare room path to =
     on (Some target) None = refl
     on (Some target) (Some folder) = refl
 
-comer_bare : (room : Content) (path : List (List ℕ)) (node : Node)
+pub comer_bare : (room : Content) (path : List (List ℕ)) (node : Node)
     → bare (with_comer room path node) ≡ changed (bare room) (Comes path node)
 comer_bare room path node = on (is_document node.kind)
   where
@@ -101,13 +101,13 @@ comer_bare room path node = on (is_document node.kind)
 
 -- ---- one change, and all
 
-record IsMade (unread : List ℕ) (change : Change) (old new : Piece) : Type 0 where
-  made : Made
-  asked : IsAskedFor unread change made
-  becomes : bare (meaning (rows_in new.keep).read)
+pub record IsMade (unread : List ℕ) (change : Change) (old new : Piece) : Type 0 where
+  pub made : Made
+  pub asked : IsAskedFor unread change made
+  pub becomes : bare (meaning (rows_in new.keep).read)
       ≡ changed (bare (meaning (rows_in old.keep).read)) made
 
-one_made : (unread : List ℕ) (change : Change) (old new : Piece) → IsDone unread change old new
+unfoldable pub one_made : (unread : List ℕ) (change : Change) (old new : Piece) → IsDone unread change old new
     → IsMade unread change old new
 one_made unread (SetsOne setting) old new done = record {
   made = Sets setting.path setting.list;
@@ -131,7 +131,7 @@ one_made unread (ComesOne object) old new done =
           ∙ comer_bare (meaning (rows_in old.keep).read) object.path node;
     }
 
-pub as_asked : ChangedAsAsked
+unfoldable pub as_asked : ChangedAsAsked
 as_asked unread [] old new same =
     ([], tt, ap (λ (p : Piece). bare (meaning (rows_in p.keep).read)) same)
 as_asked unread (change ∷ changes) old new turns =

@@ -11,16 +11,16 @@ use Rattle.room_machine.specs.{declared.request.Request.TheVariants.{Move, SetLi
 use Rattle.room_machine.specs.{Judge.first_failure, Step.{failure_or, is_refusal}, Plan.Check}
 use Rattle.room_machine.specs.Plan.{Deletion, Item, Refusal, plan_of}
 use Rattle.room_judge.specs.Judged.{IsResetOfRows}
-use Rattle.room_desk.{specs.Relocating.IsRelocated, proofs.Lists.SetReset.operator}
+use Rattle.room_desk.{specs.Relocating.{IsRelocated, relocate}, proofs.Lists.SetReset.operator}
 use Rattle.room_change.specs.Changes.{Moves, Sets, changed}
 use Rattle.room_question.specs.declared.question.{Moving.Moving, Setting.Setting}
 use Rattle.room_question.specs.declared.question.Change.{Change as Asks}
 use Rattle.room_question.specs.declared.question.Change.TheVariants.{Sets as SetsOne}
 use Rattle.room_question.specs.declared.question.Change.TheVariants.{Moves as MovesOne}
 use Rattle.room_question.specs.declared.question.Change.TheVariants.{Comes as ComesOne}
-use Rattle.room_piece.specs.{Changing.{IsDone, IsMoved, IsSet}, Holding.IsWell, Marking.IsMovedFrom}
-use Rattle.room_piece.specs.{Marking.{IsSetAt, once_set, stays, with_children}, Walking.Finds}
-use Rattle.room_piece.specs.{Walking.IsWay, declared.{piece.Piece.Piece, walking.Way.Way}}
+use Rattle.room_piece.specs.{Changing.{CanMove, CanSet, IsDone, IsMoved, IsSet}, Holding.IsWell}
+use Rattle.room_piece.specs.Marking.{IsMovedFrom, IsSetAt, once_set, stays, with_children}
+use Rattle.room_piece.specs.{Walking.{Finds, IsWay}, declared.{piece.Piece.Piece, walking.Way.Way}}
 use Rattle.room_piece.specs.{declared.refusal.Refusal.Refusal as Refuses, Refusing.why_of}
 
 -- what is refused tells why
@@ -33,6 +33,17 @@ refuses (Refusal path why true ∷ items) reply is none =
     let same : Refused path why ≡ reply = cc in
     none-some _ (sym none ∙ ap why_of (sym same))
 refuses (Refusal path why false ∷ items) reply is none = refuses items reply is none
+
+-- and what isn't refused has no refusal
+pub unbarred : (items : List Item) (room : Content) (done : Reply × Content)
+    → why_of (failure_or (first_failure operator (filter is_refusal items)) room done).0 ≡ None
+    → first_failure operator (filter is_refusal items) ≡ None
+unbarred items room done none = on (first_failure operator (filter is_refusal items)) refl none
+  where
+    on : (o : Option Reply) → first_failure operator (filter is_refusal items) ≡ o
+        → why_of (failure_or o room done).0 ≡ None → o ≡ None
+    on None found none = refl
+    on (Some reply) found none = absurd (refuses items reply found none)
 
 module _ (items : List Item) (room : Content) (done : Reply × Content) (reply : Reply)
     (after : Content) where
@@ -87,6 +98,13 @@ module _ (r : Result (Unit {0}) (Failure Refuses)) (Given : Type 0) (old new : R
         on (Ok u) none = λ given. moved_so path to old new reply (step given) none
         on (Err fault) none = tt
 
+-- what isn't refused wouldn't be
+pub unrefused_ok : (r : Result (Unit {0}) (Failure Refuses)) (Given : Type 0) (reply would : Reply)
+    → (Given → would ≡ reply) → OnOk r (why_of reply ≡ None)
+    → OnOk r (Given → why_of would ≡ None)
+unrefused_ok (Ok u) Given reply would same none = λ given. ap why_of (same given) ∙ none
+unrefused_ok (Err fault) Given reply would same none = tt
+
 -- ---- what is known then
 
 pub as_before : (rows : Content) (way : Way) (unknown : List ℕ) → stays unknown way ≡ true
@@ -125,14 +143,14 @@ well_so old new same well = record {
 }
 
 module _ (r : Result (Unit {0}) (Failure Refuses)) (old new : Piece) (mid : MemKeep) where
-  pub set_done : (setting : Setting)
+  pub set_done : (setting : Setting) → (IsWell old.keep → CanSet setting old.keep)
       → (IsWell old.keep → meaning (rows_in mid).read
       ≡ changed (meaning (rows_in old.keep).read) (Sets setting.path setting.list))
       → (IsWell old.keep → IsWell mid) → new.each ≡ old.each
       → OnOk r (AreRows (rows_in mid) → (rows_in new.keep ≡ rows_in mid)
       × IsSetAt setting.path (rows_in mid) old.unknown new.unknown)
       → OnOk r (IsWell old.keep → IsSet setting old new)
-  set_done setting means stays each marks = on r marks
+  set_done setting can means stays each marks = on r marks
     where
       on : (o : Result (Unit {0}) (Failure Refuses))
           → OnOk o (AreRows (rows_in mid) → (rows_in new.keep ≡ rows_in mid)
@@ -143,6 +161,7 @@ module _ (r : Result (Unit {0}) (Failure Refuses)) (old new : Piece) (mid : MemK
           let then = stays well in
           let same = said then.rows in
           record {
+            can = can well;
             means = ap (λ (rows : Rows). meaning rows.read) same.0 ∙ means well;
             well = well_so mid new.keep same.0 then;
             each = each;
@@ -153,21 +172,26 @@ module _ (r : Result (Unit {0}) (Failure Refuses)) (old new : Piece) (mid : MemK
   pub move_done : (moving : Moving)
       → (AreRows (rows_in old.keep) → (rows_in mid ≡ rows_in old.keep)
       × IsMovedFrom moving.path (rows_in old.keep) old.unknown new.unknown) → new.each ≡ old.each
+      → OnOk r (IsWell mid → CanMove moving mid)
       → OnOk r (IsWell mid → meaning (rows_in new.keep).read
       ≡ changed (meaning (rows_in mid).read) (Moves moving.path moving.to))
       → OnOk r (IsWell mid → IsWell new.keep) → OnOk r (IsWell old.keep → IsMoved moving old new)
-  move_done moving marks each means stays = on r means stays
+  move_done moving marks each can means stays = on r can means stays
     where
       on : (o : Result (Unit {0}) (Failure Refuses))
+          → OnOk o (IsWell mid → CanMove moving mid)
           → OnOk o (IsWell mid → meaning (rows_in new.keep).read
           ≡ changed (meaning (rows_in mid).read) (Moves moving.path moving.to))
           → OnOk o (IsWell mid → IsWell new.keep)
           → OnOk o (IsWell old.keep → IsMoved moving old new)
-      on (Err fault) said kept = tt
-      on (Ok u) said kept = λ well.
+      on (Err fault) able said kept = tt
+      on (Ok u) able said kept = λ well.
           let same = marks well.rows in
           let then = well_so old.keep mid same.0 well in
           record {
+            can = subst (λ (rows : Rows).
+                why_of (relocate (meaning rows.read) moving.path moving.to).0 ≡ None) same.0
+                (able then);
             means = said then
                 ∙ ap (λ (rows : Rows). changed (meaning rows.read) (Moves moving.path moving.to))
                 same.0;

@@ -1,15 +1,14 @@
 -- Worked examples of what is stored, refused and known.
-use Rattle.std.proofs.Common.{◌≡◌, ℕ, Bool, true, false, List, [], ◌∷◌, Some, None, refl}
+use Rattle.std.proofs.Common.{◌≡◌, Bool, true, false, List, [], ◌∷◌, Some, None, refl}
 use Rattle.std.specs.Prelude.{codes}
-use Rattle.room_entry.specs.{Ace.Ace, Rights.execute}
-use Rattle.room_entry.specs.declared.{entry.EntryKind.TheVariants.Allow, flags.ListFlags.ListFlags}
+use Rattle.room_entry.specs.{Ace.Ace, Rights.execute, declared.entry.EntryKind.TheVariants.Allow}
 use Rattle.room_entry.specs.declared.{entry.Who.TheVariants.Everyone, flags.EntryFlags.EntryFlags}
 use Rattle.room_entry.specs.declared.object.ObjKind.TheVariants.{Document}
 use Rattle.room_entry.specs.declared.fault.ListFault.TheVariants.{InheritanceOnDocument}
 use Rattle.room_rows.specs.HeldList.{Held}
 use Rattle.room_machine.specs.declared.reply.Reason.TheVariants.{BadList, Loop}
 use Rattle.room_question.specs.declared.question.Listed.{Listed, TheVariants.Text}
-use Rattle.room_piece.specs.{Refusing.why_text, Storing.{listed, misfit_of}}
+use Rattle.room_piece.specs.{Refusing.why_text, Storing.misfit_of}
 use Rattle.room_piece.specs.declared.refusal.RefusalWhy.TheVariants.{NotPassedDown, Room}
 
 -- everybody passes; the folder hands it to documents, and a document has it from there

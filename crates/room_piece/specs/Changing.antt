@@ -1,5 +1,5 @@
 -- A piece that is changed (own).
-use Rattle.std.specs.Prelude.{◌≡◌, ℕ, List, Some}
+use Rattle.std.specs.Prelude.{◌≡◌, ℕ, List, None, Some}
 use Rattle.room_entry.specs.declared.object.Which.TheVariants.{Dacl}
 use Rattle.room_rows.specs.Meaning.{meaning}
 use Rattle.room_machine.specs.Step.{reset}
@@ -19,11 +19,23 @@ use Rattle.room_piece.specs.declared.piece.Piece.{Piece}
 use Rattle.room_piece.specs.declared.refusal.Refusal.{Refusal}
 use Rattle.room_piece.specs.declared.refusal.RefusalWhy.{RefusalWhy}
 
+-- ---- which changes can be done
+
+-- the room wouldn't refuse it, rights apart
+abbrev pub CanSet : Setting → MemKeep → Type 0
+CanSet setting old =
+    why_of (reset (meaning (rows_in old).read) setting.path Dacl setting.list).0 ≡ None
+
+abbrev pub CanMove : Moving → MemKeep → Type 0
+CanMove moving old =
+    why_of (relocate (meaning (rows_in old).read) moving.path moving.to).0 ≡ None
+
 -- ---- what becomes of the piece
 
--- The room means what the change makes of it, and its rows are sound again. What each caller is to
--- have made stays so.
+-- The room, which wouldn't refuse it, means what the change makes of it, and its rows are sound
+-- again. What each caller is to have made stays so.
 pub record IsSet (setting : Setting) (old new : Piece) : Type 0 where
+  pub can : CanSet setting old.keep
   pub means : meaning (rows_in new.keep).read
       ≡ changed (meaning (rows_in old.keep).read) (IsSetTo setting.path setting.list)
   pub well : IsWell new.keep
@@ -31,6 +43,7 @@ pub record IsSet (setting : Setting) (old new : Piece) : Type 0 where
   pub unknown : IsSetAt setting.path (rows_in new.keep) old.unknown new.unknown
 
 pub record IsMoved (moving : Moving) (old new : Piece) : Type 0 where
+  pub can : CanMove moving old.keep
   pub means : meaning (rows_in new.keep).read
       ≡ changed (meaning (rows_in old.keep).read) (IsMovedTo moving.path moving.to)
   pub well : IsWell new.keep

@@ -5,6 +5,8 @@ ghost use Rattle.room_change.specs.Changes.{Sets as IsSetTo, Moves as IsMovedTo}
 ghost use Rattle.room_memory.specs.Memory.{rows_in};
 ghost use Rattle.room_rows.specs.Meaning.{meaning};
 ghost use Rattle.room_piece.specs.Changing.{
+  CanMove,
+  CanSet,
   CannotDo,
   CannotMove,
   CannotSet,
@@ -79,6 +81,7 @@ fn set(alloc: Global, piece: &mut Piece, setting: &Setting) -> Result<(), Failur
 
 // Sets a dacl in a keeper.
 fn set_in(alloc: Global, keep: &mut MemKeep, setting: &Setting) -> Result<(), Failure<Refusal>>
+    ensures can { OnOk result (IsWell keep.old → CanSet setting.now keep.old) }
     ensures means { OnOk result (IsWell keep.old → meaning (rows_in keep.new).read
         ≡ changed (meaning (rows_in keep.old).read)
         (IsSetTo setting.now.path setting.now.list)) }
@@ -106,6 +109,7 @@ fn relocate(alloc: Global, piece: &mut Piece, moving: &Moving) -> Result<(), Fai
 
 // Moves an object in a keeper.
 fn move_in(alloc: Global, keep: &mut MemKeep, moving: &Moving) -> Result<(), Failure<Refusal>>
+    ensures can { OnOk result (IsWell keep.old → CanMove moving.now keep.old) }
     ensures means { OnOk result (IsWell keep.old → meaning (rows_in keep.new).read
         ≡ changed (meaning (rows_in keep.old).read)
         (IsMovedTo moving.now.path moving.now.to)) }

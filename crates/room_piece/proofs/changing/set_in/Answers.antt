@@ -1,5 +1,13 @@
-use Rattle.room_piece.proofs.Done.{set_ok}
+use Rattle.std.proofs.Common.{ap}
+use Rattle.room_machine.specs.declared.reply.Reply.{Reply}
+use Rattle.room_rows.specs.Content.{Content}
+use Rattle.room_piece.proofs.Done.{set_ok, unrefused_ok}
 use Rattle.room_piece.proofs.changing.set_in.Goals as goal
+
+pub returns-in-Ok-clause-can : goal.returns-in-Ok-clause-can
+returns-in-Ok-clause-can c =
+    unrefused_ok c.judged.result _ _ _ (λ well. ap (λ (p : Reply × Content). p.0)
+    ((c.in-Ok.ensures.done.becomes well.rows).step well.sound).reset) c.judged.ensures.done
 
 pub returns-in-Ok-clause-means : goal.returns-in-Ok-clause-means
 returns-in-Ok-clause-means c =
