@@ -1,8 +1,7 @@
 -- What failures say of their faults.
 use Rattle.std.proofs.Common.{◌≡◌, Result, Ok, Err, IfErr, sym, subst}
 use Rattle.room_entry.specs.declared.failure.Failure.{Failure, TheVariants.{Fault, OutOfMemory}}
-use Rattle.room_piece.specs.Refusing.{Blames as BlamesPiece}
-use Rattle.room_piece.specs.declared.refusal.Refusal.{Refusal}
+use Rattle.room_piece.specs.{Refusing.Blames as BlamesPiece, declared.refusal.Refusal.Refusal}
 use Rattle.room_would.specs.Faults.{Blames, becomes, unbuilt}
 use Rattle.room_would.specs.declared.fault.WouldFault.{WouldFault}
 

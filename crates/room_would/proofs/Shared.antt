@@ -1,6 +1,5 @@
 -- The front that two paths have in common.
-use Rattle.std.proofs.Common.{◌≡◌, ℕ, ◌+◌, ◌≤◌, List, [], ◌∷◌, drop, length, refl}
-use Rattle.std.proofs.Common.{ap, arith, ◌∙◌}
+use Rattle.std.proofs.Common.{◌≡◌, ℕ, ◌+◌, ◌≤◌, List, [], ◌∷◌, drop, length, refl, ap, arith, ◌∙◌}
 use Rattle.std.proofs.lemmas.List.{drop_all}
 use Rattle.room_would.specs.Paths.{shared_count}
 

@@ -1,26 +1,25 @@
 -- What is told, in terms of calls.
 use Rattle.std.proofs.Common.{◌≡◌, ℕ, ◌<◌, ◌≤◌, Bool, true, false, List, length, Result, Ok, Err}
 use Rattle.std.proofs.Common.{IfErr, IfOk, refl, sym, ap, subst, ◌∙◌, arith}
-use Rattle.std.proofs.lemmas.Bool.Decides.{nat_tests}
-use Rattle.std.specs.Prelude.{nat_lt, ◌*◌}
+use Rattle.std.{proofs.lemmas.Bool.Decides.nat_tests, specs.Prelude.{nat_lt, ◌*◌}}
 use Rattle.room_ace.specs.Lists.{lines_of}
 use Rattle.room_entry.specs.declared.failure.Failure.{Failure, TheVariants.{Fault, OutOfMemory}}
 use Rattle.room_entry.specs.Gives.{Gives}
 use Rattle.room_rows.specs.Rows.{AreRows, Rows, numbers_of}
 use Rattle.room_memory.specs.Memory.{rows_in}
 use Rattle.room_question.specs.declared.{fault.QuestionFault.QuestionFault, question.Change.Change}
-use Rattle.room_question.specs.{Reading.question_of, declared.question.Question.Question}
+use Rattle.room_question.specs.{declared.question.Question.Question, Reading.question_of}
 use Rattle.room_piece.specs.{Building.IsPiece, Changing.{CannotDo, IsDone}, Holding.IsWell}
 use Rattle.room_piece.specs.{InTurn.{InTurn, StopsInTurn}, Refusing.Blames as BlamesPiece}
 use Rattle.room_piece.specs.declared.{piece.Piece.Piece, refusal.Refusal.Refusal}
 use Rattle.room_piece.proofs.{Done.done_well, Turns.well_then}
 use Rattle.room_turns.specs.declared.asked.Asked.{Asked}
-use Rattle.room_would.specs.Asking.{IsAsked, State, state_of, turns}
-use Rattle.room_would.specs.Faults.{Blames, becomes, unbuilt, unread}
-use Rattle.room_would.specs.Would.{CannotSay, IsStopped, IsTold, IsWould, Says, SaysAll, SaysFound}
-use Rattle.room_would.specs.Would.{Stopped, StopsFrom, TellsFrom, Undone, Unread, Unsaid}
-use Rattle.room_would.specs.declared.{fault.WouldFault.WouldFault, limits.TheConstants.MOST_TURNS}
-use Rattle.room_would.proofs.Blamed.{blames_all, blames_unbuilt}
+use Rattle.room_would.specs.{Asking.{IsAsked, State, state_of, turns}, Faults.{Blames, becomes}}
+use Rattle.room_would.specs.{Faults.{unbuilt, unread}, Would.{CannotSay, IsStopped, IsTold}}
+use Rattle.room_would.specs.Would.{IsWould, Says, SaysAll, SaysFound, Stopped, StopsFrom, TellsFrom}
+use Rattle.room_would.specs.{Would.{Undone, Unread, Unsaid}, declared.fault.WouldFault.WouldFault}
+use Rattle.room_would.{specs.declared.limits.TheConstants.MOST_TURNS, proofs.Blamed.blames_all}
+use Rattle.room_would.proofs.Blamed.{blames_unbuilt}
 
 -- ---- how much it is
 

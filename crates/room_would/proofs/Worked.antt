@@ -1,40 +1,32 @@
 -- Worked examples of who is asked for, where an answer begins, what is refused, and what is told.
-use Rattle.std.proofs.Common.{◌≡◌, ℕ, true, false, List, [], ◌∷◌, Some, None, refl, subst}
-use Rattle.std.specs.{Prelude.codes, List.AllZip}
+use Rattle.std.proofs.Common.{◌≡◌, ℕ, true, false, List, [], ◌∷◌, ◌++◌, Option, Some, None, refl}
+use Rattle.std.{proofs.Common.{ap, subst}, specs.{Option.option_map, Prelude.codes, List.AllZip}}
+use Rattle.room_rows.specs.{Content.node_at, declared.node.Node.Node, Rows.Rows}
 use Rattle.room_entry.specs.{Bits.all_bits, Rights.{delete_child, read_data}}
 use Rattle.room_entry.specs.declared.entry.{EntryKind.TheVariants.Allow, Who.Who}
 use Rattle.room_entry.specs.declared.entry.Who.TheVariants.{Members, User}
 use Rattle.room_entry.specs.declared.{object.ObjKind.TheVariants.Folder, parties.Caller.Caller}
 use Rattle.room_ace.specs.Sent.{Sent}
-use Rattle.room_rows.specs.{declared.node.Node.Node, Rows.Rows}
 use Rattle.room_memory.specs.Memory.{memory_rows, rows_in}
-use Rattle.room_machine.specs.Stored.{stored_site}
-use Rattle.room_machine.specs.declared.reply.Reason.TheVariants.{NoSuch}
+use Rattle.room_machine.specs.{Stored.stored_site, declared.reply.Reason.TheVariants.NoSuch}
 use Rattle.room_machine.proofs.Worked.Worlds.{entry, everyone_passes, held, none, object, plain}
 use Rattle.room_machine.proofs.Worked.Worlds.{root_folder, root_may_all}
-use Rattle.room_change.specs.Changes.{Change as Made}
-use Rattle.room_piece.specs.Laws.{IsAskedFor}
-use Rattle.room_piece.specs.declared.refusal.RefusalWhy.TheVariants.{Room}
+use Rattle.room_change.specs.Changes.{Change as Made, Moves as MovesTo, came_from}
+use Rattle.room_piece.specs.{Laws.IsAskedFor, declared.refusal.RefusalWhy.TheVariants.Room}
 use Rattle.room_question.specs.Reading.{nothing_said}
 use Rattle.room_question.specs.declared.fault.QuestionWhy.TheVariants.{TooMuch}
-use Rattle.room_question.specs.declared.question.Change.{Change}
-use Rattle.room_question.specs.declared.question.Change.TheVariants.{Moves, Sets}
-use Rattle.room_question.specs.declared.question.Listed.{Listed}
-use Rattle.room_question.specs.declared.question.Listed.TheVariants as listed
-use Rattle.room_question.specs.declared.question.Look.{Look}
-use Rattle.room_question.specs.declared.question.{Object.Object, Question.Question}
-use Rattle.room_question.specs.declared.question.Owner.{Owner}
-use Rattle.room_question.specs.declared.question.Owner.TheVariants as owner
-use Rattle.room_question.specs.declared.question.Supposed.{Supposed}
+use Rattle.room_question.specs.declared.question.Change.{Change, TheVariants.{Moves, Sets}}
+use Rattle.room_question.specs.declared.question.{Listed.Listed, Look.Look, Object.Object}
+use Rattle.room_question.specs.declared.question.{Question.Question, Owner.Owner, Supposed.Supposed}
 use Rattle.room_review.specs.Users.{is_listed}
 use Rattle.room_turns.specs.Turns.{View, turn_at}
-use Rattle.room_would.specs.Faults.{would_why_text}
-use Rattle.room_would.specs.Laws.{SayTurned}
-use Rattle.room_would.specs.{Lists.list_at, Looking.{lost_look}, Names.names_in}
-use Rattle.room_would.specs.{Names.users_named, Parties.supposed_party, Paths.first_path}
-use Rattle.room_would.specs.{Would.IsAnswer}
-use Rattle.room_would.specs.declared.fault.WouldWhy.TheVariants as why
+use Rattle.room_would.specs.{Faults.would_why_text, Laws.{CameFrom, SayTurned, as_found, room_in}}
+use Rattle.room_would.specs.{Lists.list_at, Looking.lost_look, Names.{names_in, users_named}}
+use Rattle.room_would.specs.{Parties.supposed_party, Paths.first_path, Would.IsAnswer}
 use Rattle.room_would.proofs.Reviewed.{would_is_the_review}
+use Rattle.room_question.specs.declared.question.Listed.TheVariants as listed
+use Rattle.room_question.specs.declared.question.Owner.TheVariants as owner
+use Rattle.room_would.specs.declared.fault.WouldWhy.TheVariants as why
 
 -- ---- a question with pairs, an owner who isn't known, and lists
 
@@ -182,12 +174,68 @@ none_made absent [] (one ∷ made) is all = absurd all
 none_made absent (change ∷ changes) made is all = absurd (let wrong : ⊥ = cc in wrong)
 
 -- its rows say what a review says of the room as it is
-looks_alike : (bytes text : List ℕ) (answer : IsAnswer bytes text)
-    → answer.2.told.says.says.asked.own ≡ [] → answer.0.changes ≡ []
+looks_alike : (bytes text : List ℕ) (answer : IsAnswer bytes text) → answer.0.changes ≡ []
     → SayTurned answer.2.told.says.says.asked (rows_in answer.2.before.keep)
     (rows_in answer.2.told.after.keep) []
-looks_alike bytes text answer own is =
-    let law = would_is_the_review bytes text answer own in
+looks_alike bytes text answer is =
+    let law = would_is_the_review bytes text answer in
     subst (λ (made : List Made). SayTurned answer.2.told.says.says.asked
     (rows_in answer.2.before.keep) (rows_in answer.2.told.after.keep) made)
-    (none_made answer.2.unread answer.0.changes law.0 is law.1) law.2
+    (none_made answer.2.unread answer.0.changes law.0 is law.1) law.3
+
+-- ---- a question that moves an object
+
+abbrev b : List (List ℕ)
+b = codes "b" ∷ []
+
+abbrev x : List (List ℕ)
+x = codes "x" ∷ []
+
+one_moved : (absent : List ℕ) (changes : List Change) (made : List Made) → changes ≡ moves a b ∷ []
+    → AllZip (IsAskedFor absent) changes made → made ≡ MovesTo a b ∷ []
+one_moved absent changes made is all =
+    on made (subst (λ (asked : List Change). AllZip (IsAskedFor absent) asked made) is all)
+  where
+    on : (made : List Made) → AllZip (IsAskedFor absent) (moves a b ∷ []) made
+        → made ≡ MovesTo a b ∷ []
+    on [] all = absurd all
+    on (one ∷ []) all = ap (λ (it : Made). it ∷ []) all.0
+    on (one ∷ other ∷ more) all = absurd all.1
+
+-- its rows say what a review says of the room where each object came from, and one of the room
+-- after the move
+move_is_told : (bytes text : List ℕ) (answer : IsAnswer bytes text)
+    → answer.0.changes ≡ moves a b ∷ [] →
+    let asked = answer.2.told.says.says.asked in
+    let before = rows_in answer.2.before.keep in
+    let after = rows_in answer.2.told.after.keep in
+    CameFrom asked before after (MovesTo a b ∷ []) × SayTurned asked before after (MovesTo a b ∷ [])
+move_is_told bytes text answer is =
+    let law = would_is_the_review bytes text answer in
+    subst (λ (made : List Made).
+    CameFrom answer.2.told.says.says.asked (rows_in answer.2.before.keep)
+    (rows_in answer.2.told.after.keep) made
+    × SayTurned answer.2.told.says.says.asked (rows_in answer.2.before.keep)
+    (rows_in answer.2.told.after.keep) made)
+    (one_moved answer.2.unread answer.0.changes law.0 is law.1) (law.2, law.3)
+
+-- what is in it came with it
+came_with_it : came_from (MovesTo a b ∷ []) (b ++ x) ≡ Some (a ++ x)
+came_with_it = refl
+
+-- and what stands elsewhere stayed
+stayed : came_from (MovesTo a b ∷ []) x ≡ Some x
+stayed = refl
+
+-- ---- an object that each caller would have made
+
+abbrev owner_at : Caller → Option (List ℕ)
+owner_at caller =
+    option_map (λ node. node.owners.owner) (node_at (as_found (2 ∷ []) caller (room_in rows)) 2)
+
+her_own : owner_at dana ≡ Some (codes "dana")
+her_own = refl
+
+-- a caller without a name owns nothing
+nobodys : owner_at (record { user = None; groups = [] }) ≡ Some (codes "root")
+nobodys = refl

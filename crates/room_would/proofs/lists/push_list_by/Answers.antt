@@ -1,8 +1,7 @@
 use Rattle.std.proofs.Common.{◌≡◌, Some, true, rules, ◌∙◌}
-use Rattle.room_rows.specs.{Paths.path_text}
+use Rattle.room_rows.specs.Paths.{path_text}
 use Rattle.room_machine.specs.Rights.{last_of}
-use Rattle.room_would.specs.Lists.{is_told}
-use Rattle.room_would.proofs.{Last.last_is, Listed.list_pushed}
+use Rattle.room_would.{specs.Lists.is_told, proofs.{Last.last_is, Listed.list_pushed}}
 use Rattle.room_would.proofs.lists.push_list_by.Goals as goal
 
 pub returns-in_ok-text-in-Some : goal.returns-in_ok-text-in-Some
