@@ -40,7 +40,10 @@ is 'of which one is new' office.conf "${first[@]}" KEEP=14 'TITLE=Our office = o
   DRIVE=yes
 sets LIMIT=300
 told 'a limit' 0 'it counts after: systemctl restart rooms-full@office'
-sets LIMIT= DRIVE=
+sets SEARCH=yes
+told 'a search, which the door has from its start' 0 \
+  'it counts after: rooms-admin setup; systemctl restart rooms-door@office'
+sets LIMIT= DRIVE= SEARCH=no
 told 'none any more' 0 'with LIMIT=, DRIVE='
 cp $conf before
 for wrong in \
