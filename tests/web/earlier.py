@@ -16,6 +16,7 @@ from selenium.webdriver.common.keys import Keys
 
 sys.path.insert(0, os.path.dirname(os.path.realpath(__file__)))
 from browser import Browser, Checks  # noqa: E402
+from tasks import INSIDE, Counted  # noqa: E402
 
 ALL = 'rwanNxDtThHdcCoy'
 # What is wider than a window of so many pixels.
@@ -277,6 +278,43 @@ class Nights:
         bob.press('Back to now')
         bob.lists('plans', 'offer.txt')
 
+    def lost(self):
+        """A document is gone; and whoever counts from here."""
+        self.read('letters/kept.txt', 'DELETE', word='object')
+        self.bob.open('#/letters')
+        return Counted(self.bob)
+
+    def by_three_clicks(self):
+        at = self.lost()
+        at.press('Earlier', 'main .bar')
+        at.press('Put kept.txt back')
+        at.press('Put back', 'dialog')
+        self.bob.says('1 object put back')
+        assert at.count <= 3, at.count
+
+    def by_few_keys(self):
+        """From the page as it opens, with the link past its head."""
+        at = self.lost()
+        at.type(Keys.TAB, Keys.ENTER)
+        at.go('Earlier')
+        at.type(Keys.ENTER)
+        self.bob.until(lambda: self.bob.all('table.then'), 'the night')
+        for _ in range(20):
+            if self.bob.script(INSIDE, 'table.then'):
+                break
+            at.type(Keys.TAB)
+        at.type(Keys.HOME)
+        self.bob.until(lambda: self.bob.script("return document.activeElement.closest('tr')"
+                                               ".dataset.path") == '/letters/kept.txt'
+                       or at.type(Keys.ARROW_DOWN), 'its row')
+        at.go('Put kept.txt back', Keys.ARROW_RIGHT)
+        at.type(Keys.ENTER)
+        self.bob.until(lambda: self.bob.all('dialog'), 'the question')
+        at.go('Put back')
+        at.type(Keys.ENTER)
+        self.bob.says('1 object put back')
+        assert at.count <= 34, at.count
+
     def quiet(self):
         for user in (self.bob, self.eve, self.alice):
             assert user.errors() == [], user.errors()
@@ -325,6 +363,8 @@ def main():
                     ('what was replaced', play.replaced),
                     ('what came after the question', play.made_meanwhile),
                     ('another night', play.another_night),
+                    ('by three clicks', play.by_three_clicks),
+                    ('by few keys', play.by_few_keys),
                     ('no fault in the console', play.quiet)):
                 checks.step(f'{browser}: {name}', act)
     finally:

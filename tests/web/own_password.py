@@ -9,6 +9,8 @@ import time
 
 sys.path.insert(0, os.path.dirname(os.path.realpath(__file__)))
 from browser import Browser, Checks  # noqa: E402
+from selenium.webdriver.common.keys import Keys  # noqa: E402
+from tasks import Counted  # noqa: E402
 
 FIELDS = 'dialog input[type=password]'
 # nginx takes an old one for ten seconds.
@@ -34,10 +36,13 @@ class Passwords:
             'fetch(arguments[0]).then((reply) => done(reply.status), () => done(0));', target)
 
     def opened(self):
+        """By two clicks, and the third one changes it."""
         self.alice.open('#/')
-        self.alice.press('Your account')
-        self.alice.press('Change your password', '.menu')
+        at = Counted(self.alice)
+        at.press('Your account')
+        at.press('Change your password', '.menu')
         assert len(self.alice.until(lambda: self.alice.all(FIELDS), 'the fields')) == 3
+        assert at.count == 2, at.count
 
     def refused(self):
         """Each in words, and the dialog stays."""
@@ -62,6 +67,33 @@ class Passwords:
         assert self.status_of(self.alice, 'folder/') == 200
         self.alice.reload()
         assert self.alice.all('main .bar')
+
+    def by_keys(self):
+        """Beside what is typed."""
+        alice = self.alice
+        alice.open('#/')
+        at = Counted(alice)
+        at.go('Your account')
+        at.type(Keys.ENTER)
+        at.go('Change your password', Keys.ARROW_DOWN)
+        at.type(Keys.ENTER)
+        alice.until(lambda: alice.all(FIELDS), 'the fields')
+        for text in ('gravel under bridges', 'walnuts under bridges', 'walnuts under bridges'):
+            alice.type(text)
+            at.type(Keys.TAB)
+        at.go('Change it')
+        at.type(Keys.ENTER)
+        alice.says('was changed')
+        assert at.count <= 24, at.count
+        # Back to the one that those after this know.
+        time.sleep(FORGOTTEN)
+        alice.open('#/')
+        at.press('Your account')
+        at.press('Change your password', '.menu')
+        alice.until(lambda: alice.all(FIELDS), 'the fields')
+        self.fill(alice, 'walnuts under bridges', 'gravel under bridges', 'gravel under bridges')
+        alice.says('was changed')
+        time.sleep(FORGOTTEN)
 
     def first(self):
         """Nothing but the change is offered, and the room opens after it."""
@@ -107,6 +139,7 @@ def main():
         for name, act in (
                 ('the dialog at the name', play.opened), ('what is refused', play.refused),
                 ('the change', play.changed), ('the browser goes on', play.goes_on),
+                *([('by few keys', play.by_keys)] if browser == 'chromium' else []),
                 ('a first password', play.first), ('where root alone changes it', play.elsewhere),
                 ('no fault in the console', play.quiet)):
             checks.step(f'{browser}: {name}', act)
