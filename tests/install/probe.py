@@ -76,7 +76,7 @@ def main():
                  "/run/rooms-front/passwords.sock", "/run/rooms-own-password/socket",
                  "/run/rooms-nights/socket", "/run/rooms-earlier/socket",
                  "/run/rooms-picture/socket", "/run/rooms-texts/socket",
-                 "/run/rooms-extract/socket", "/run/rooms-would/socket",
+                 "/run/rooms-extract/socket", "/run/rooms-scan/socket", "/run/rooms-would/socket",
                  "/run/dbus/system_bus_socket", "/run/systemd/private"):
         tries(f"ask {path}", lambda path=path: reaches(path))
     tries("ask 127.0.0.1:80", goes_out)

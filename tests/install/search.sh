@@ -49,7 +49,7 @@ holds 'have no word of a search' eval '! grep -qi -e secretword -e nosuchword "$
 does 'who reads texts' 'for user in nobody www-data rooms rooms-door rooms-earlier rooms-extract; do
   ! setpriv --reuid=$user --regid=$(id -g $user) --clear-groups \
     cat /var/cache/rooms-texts/office/night.*/texts >/dev/null 2>&1 || echo $user
-  for one in texts extract; do
+  for one in texts extract scan; do
     ! setpriv --reuid=$user --regid=$(id -g $user) --clear-groups \
       curl -s --max-time 3 --unix-socket /run/rooms-$one/socket http://x/ >/dev/null 2>&1 ||
       echo $user asks $one
@@ -98,6 +98,13 @@ in_place rooms-extract@ /usr/local/lib/probe.py
 does 'it is asked' "$said"
 cp "$work/out" did
 can 'who reads a document' ''
+rm -r "$machine/etc/systemd/system/rooms-extract@.service.d"
+does 'where scans are read' 'rooms-admin set SEARCH_SCANS=1; rooms-admin setup'
+in_place rooms-scan@ /usr/local/lib/probe.py
+does 'it is asked' "${said/rooms-extract/rooms-scan}"
+cp "$work/out" did
+can 'who reads a scan' ''
+rm -r "$machine/etc/systemd/system/rooms-scan@.service.d"
 # One that takes what it can: time, memory, files, processes.
 cat >"$machine/usr/local/lib/takes.py" <<'END'
 import contextlib, os, resource, sys, time
@@ -123,7 +130,6 @@ print(f"{count} processes", flush=True)
 time.sleep(60)
 print("60 seconds", flush=True)
 END
-rm -r "$machine/etc/systemd/system/rooms-extract@.service.d"
 in_place rooms-extract@ /usr/local/lib/takes.py
 does 'it takes what it can' "time -p $said"
 cp "$work/out" did
@@ -149,7 +155,8 @@ probed() { # NAME UNIT INSTANCE WHAT-IT-CAN-DO ..
 probed 'who keeps texts' rooms-texts '' 'list /var/cache/rooms-texts/office' 'write /var/tmp'
 probed 'who has a night read' rooms-texts-night@ office \
   'list /var/cache/rooms-texts/office' 'write /var/tmp' \
-  'write /var/cache/rooms-texts/office' 'ask /run/rooms-extract/socket'
+  'write /var/cache/rooms-texts/office' 'ask /run/rooms-extract/socket' \
+  'ask /run/rooms-scan/socket'
 
 # What goes with the setting, and with the room.
 does 'as before' 'systemctl daemon-reload; systemctl reset-failed
@@ -157,7 +164,7 @@ does 'as before' 'systemctl daemon-reload; systemctl reset-failed
 until_inside 'texts are searched' "$asks -f -o /dev/null '$at/door/search/?word'"
 does 'without the setting' 'rooms-admin set SEARCH=no
   rooms-admin setup && systemctl restart rooms-door@office && ! ls /var/cache/rooms-texts/*
-  ! systemctl is-active rooms-texts.socket rooms-extract.socket'
+  ! systemctl is-active rooms-texts.socket rooms-extract.socket rooms-scan.socket'
 door_is_there
 found 'none is searched' rewritten '"why":"no-search" 404 '
 stop_machine

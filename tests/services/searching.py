@@ -52,7 +52,7 @@ class Searching(Dated):
         super().begin(shows, days)
         assert isinstance(self.keeper, Keeper)
 
-    def make_night(self, at: float | None = None) -> int:
+    def make_night(self, at: float | None = None, scans: night.Read | None = None) -> int:
         """Of the room as it is, once all its lines are taken. Its moment, in milliseconds."""
         self.keeper.catch_up()
         time.sleep(0.003)
@@ -60,8 +60,8 @@ class Searching(Dated):
         tree = {"/" + "/".join(path): body for path, body in sorted(self.room.objects.items())
                 if path}
         numbers = copy(self.at("copied"), tree)
-        night.Night("office", extract.read, 60.0).make(self.at("copied"), moment,
-                                                       "2026-11-30.020000")
+        night.Night("office", extract.read, 60.0, 60.0 if scans else 0.0, scans).make(
+            self.at("copied"), moment, "2026-11-30.020000")
         rows = []
         for path, body in tree.items():
             above, _, name = path.rpartition("/")

@@ -129,6 +129,18 @@ class Found(Searching):
         self.assertEqual(self.told("/door/latest/f")[0], 404)
 
 
+    def test_a_hit_in_a_scan(self) -> None:
+        """Of which no text is read by day: it has none."""
+        self.room.make(g__scan=b"\xff\xd8\xffpicture")
+
+        def scanned(data: bytes) -> tuple[State, str]:
+            return State.WHOLE, "words of a scan"
+        self.make_night(time.time() + 1, scanned)
+        _, said = self.search("scan")
+        self.assertEqual(said["found"], [{"count": 1, "path": "/f/scan"},
+                                         {"count": 1, "path": "/g/scan"}])
+
+
 class Changed(Searching):
     def setUp(self) -> None:
         super().setUp()

@@ -122,6 +122,41 @@ class Stores(Based):
         numbers = self.night(6, tree)
         self.assertEqual(self.found(6, numbers, "text"), {"/one": 1, "/two": 1})
 
+    def test_scans(self) -> None:
+        """As many as there is time for, each once; the others are scans in the next night."""
+        first, second, blank = (b"-no text", b"\xff\xd8\xffpicture of words", b"%PDF-?-blank")
+        tree: Tree = {"/one": second, "/two": b"II*\0other words", "/blank": blank,
+                      "/none": first, "/text": b"words"}
+        scanned: list[bytes] = []
+        seconds = 60.0
+
+        def reads(data: bytes) -> tuple[State, str]:
+            return (State.WHOLE, "words") if data == b"words" else (State.NONE, "")
+
+        def scans(data: bytes) -> tuple[State, str]:
+            if seconds < 0:
+                return State.LACKS, ""
+            scanned.append(data)
+            return (State.BLANK, "") if data == blank else (State.WHOLE, data[3:].decode())
+
+        def night_of(at: int) -> dict[str, int]:
+            scanned.clear()
+            numbers = copy(f"{self.folder}/copy", tree)
+            night.Night("office", reads, 60.0, abs(seconds), scans).make(
+                f"{self.folder}/copy", at, "2026-11-30.020000")
+            return self.found(at, numbers, "words")
+        seconds = 0.0
+        self.assertEqual((night_of(5), scanned), ({"/text": 1}, []))
+        # Where nobody reads scans, they stay what they are.
+        seconds = -60.0
+        self.assertEqual((night_of(6), scanned), ({"/text": 1}, []))
+        seconds = 60.0
+        self.assertEqual(night_of(7), {"/one": 1, "/two": 1, "/text": 1})
+        self.assertEqual(sorted(scanned), sorted((second, tree["/two"], blank)))
+        self.assertEqual((night_of(8), scanned), ({"/one": 1, "/two": 1, "/text": 1}, []))
+        with open(f"{self.folder}/office/{night.LIST}", encoding="utf-8") as out:
+            self.assertEqual(out.read(), "why,path\nblank,/blank\nnone,/none\n")
+
     def test_nobody_reads(self) -> None:
         """The last night stays where no process begins that reads."""
         numbers = self.night(5, {"/one": b"text"})

@@ -1,11 +1,14 @@
 """Texts of documents: of which kinds they are read, how they are compared, and what is shown."""
+import os
 import random
 import shutil
+import subprocess
+import tempfile
 import unicodedata
 import unittest
 
 import papers
-from rooms_services.texts import extract, folding
+from rooms_services.texts import extract, folding, scan
 from rooms_services.texts.sink import MOST_TEXT, State
 
 LINES = ["Kündigung der Straße 5 & Grüße <an> Müller", "Über Œuvre, naïve Ärzte: 12.345 €",
@@ -62,6 +65,30 @@ class Kinds(unittest.TestCase):
         self.assertIs(state, State.CUT)
         self.assertLessEqual(len(text.encode()), MOST_TEXT)
         self.assertTrue(text.lstrip().startswith("word word"))
+
+
+@unittest.skipUnless(shutil.which("tesseract") and shutil.which("pdftoppm"), "no tesseract")
+class Scans(unittest.TestCase):
+    def test_a_picture_of_a_text(self) -> None:
+        with tempfile.TemporaryDirectory() as folder:
+            with open(f"{folder}/pdf", "wb") as out:
+                out.write(papers.pdf(["The notice of termination", "with kind regards"]))
+            for kind in ("png", "jpeg", "tiff"):
+                subprocess.run(["pdftoppm", "-r", "150", f"-{kind}", "-singlefile", "pdf", "page"],
+                               cwd=folder, check=True)
+                made = next(one for one in os.listdir(folder) if one.startswith("page."))
+                with open(f"{folder}/{made}", "rb") as source:
+                    data = source.read()
+                os.unlink(f"{folder}/{made}")
+                self.assertTrue(scan.is_scan(data))
+                self.assertEqual(plain(data), (State.NONE, ""))
+                state, text = scan.read(data)
+                self.assertIs(state, State.WHOLE)
+                self.assertIn("notice of termination", folding.plain(text))
+            # (of a PDF the pages are made to pictures, whatever they have)
+            with open(f"{folder}/pdf", "rb") as source:
+                self.assertIn("kind regards", scan.read(source.read())[1])
+        self.assertIs(scan.read(b"\xff\xd8\xff\xe0" + b"x" * 500)[0], State.BLANK)
 
 
 class Folding(unittest.TestCase):

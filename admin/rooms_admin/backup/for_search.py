@@ -32,7 +32,7 @@ def build(room: Room, kept: str, at: int, night: str) -> str:
         return ""
     folder = f"{ROOT}{PLACE}/{room.name}.copy"
     try:
-        _bring(room, kept, folder, {"at": at, "night": night})
+        _bring(room, kept, folder, {"at": at, "night": night, "scans": room.scans})
         reads = unit(room.name)
         status, said = server.systemctl("start", reads)
         return "" if status == 0 else _lacks(room, said or f"journalctl -u {reads}")

@@ -290,6 +290,9 @@ def see_search(room: Room) -> list[Finding]:
     if not shutil.which("pdftotext"):
         found.append((WARNING, "no pdftotext, so no text of a PDF is searched: apt-get install "
                       "poppler-utils"))
+    if room.scans and not shutil.which("tesseract"):
+        found.append((WARNING, "no tesseract, so no scan is read: apt-get install tesseract-ocr "
+                      "tesseract-ocr-deu"))
     age = for_search.age(room)
     if age is None:
         found.append((WARNING, f"no texts are searched yet: systemctl start {room.nightly}"))

@@ -241,6 +241,8 @@ class Room(Kept):
     reviewer: str = setting("REVIEWER", lambda text: not text or is_user(text), "a user's name")
     days_of_names: int = setting("DATES_NAMES", r"0|[1-9][0-9]{0,3}", "a number of days", "90",
                                  int)
+    scans: int = setting("SEARCH_SCANS", r"[0-9]|[1-9][0-9]|1[01][0-9]|120",
+                         "a number of minutes, 0 to 120", "0", int)
     hours: int = setting("HOURS", r"0|[1-9][0-9]{0,2}", "a number of copies, 0 to 999", "0", int)
 
     def __post_init__(self) -> None:

@@ -106,9 +106,12 @@ def serve(made: Changes, wanted: template.Site) -> None:
     own = any(one.own for one in wanted.shown)
     earlier = any(one.shows_nights for one in wanted.rooms)
     search = any(one.search for one in wanted.rooms)
+    scans = search and any(settings.value(f"/etc/rooms/{one.name}.conf", "SEARCH_SCANS")
+                           not in ("", "0") for one in wanted.rooms if one.search)
     here = any(not one.on for one in wanted.rooms)
     for name, is_wanted in (("password-file", own), ("own-password", own), ("nights", earlier),
                             ("earlier", earlier), ("extract", search), ("texts", search),
+                            ("scan", scans),
                             ("picture", here), ("would", here)):
         unit = f"rooms-{name}.socket"
         is_on = os.path.islink(f"/etc/systemd/system/sockets.target.wants/{unit}")

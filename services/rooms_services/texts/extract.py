@@ -23,6 +23,8 @@ LARGEST = 1_048_576
 # Mails in mails.
 DEEP = 2
 _OLD_OFFICE = bytes.fromhex("d0cf11e0a1b11ae1")
+# JPEG, PNG, TIFF.
+PICTURES = (b"\xff\xd8\xff", b"\x89PNG\r\n", b"II*\0", b"MM\0*")
 _PDF = ["pdftotext", "-q", "-enc", "UTF-8", "-nopgbrk", "-", "-"]
 # What modules of Python's raise at what somebody has made up.
 _FAULTS = (ValueError, zipfile.BadZipFile, expat.ExpatError, EOFError, NotImplementedError,
@@ -61,7 +63,7 @@ def _read(data: bytes, sink: Sink, deep: int = DEEP, kind: str = "") -> State:
         return package(data, sink)
     if data.startswith(b"{\\rtf"):
         return rich_text(data, sink)
-    if data.startswith(_OLD_OFFICE) or b"\0" in data[:65_536] and not is_wide(data):
+    if data.startswith((_OLD_OFFICE, *PICTURES)) or b"\0" in data[:65_536] and not is_wide(data):
         return State.NONE
     if kind == "text/html" or re.match(rb"<!doctype html|<html", data[:1024].lstrip().lower()):
         return web_page(data, sink)

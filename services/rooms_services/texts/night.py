@@ -21,17 +21,19 @@ from rooms_admin.backup import objects_of_copy
 from rooms_admin.cli import signs
 from rooms_admin.room import names
 
-from . import feed, nights
+from . import feed, nights, scan
 from .extract import VERSION
 from .folding import folded, plain
 from .sink import State
 from .store import Making, sum_of
 
+# Where scans are read, and how long one may take.
+SCANS, SCAN_SECONDS = "/run/rooms-scan/socket", 200.0
 # Seconds of a night, at how many documents are read at once, and how many wait for that.
 SECONDS, AT_ONCE, WAITING = 1800.0, 3, 12
 # How often one is asked for that is refused, and how many in a row, until there seem to be none.
 TRIES, PAUSE, NOBODY = 5, 0.4, 20
-# After these seconds a file ends it that was made to take long.
+# After these seconds more than scans have a file ends it that was made to take long.
 LONGEST = 2700
 LIST = "without.csv"
 Read = Callable[[bytes], tuple[State, str]]
@@ -73,15 +75,18 @@ def _path(above: dict[int, tuple[int, str]], up: int, name: str) -> str:
 
 
 class Night:
-    def __init__(self, room: str, read: Read = feed.text_of, seconds: float = SECONDS) -> None:
+    """Scans are read for `scans` seconds, after all else."""
+
+    def __init__(self, room: str, read: Read = feed.text_of, seconds: float = SECONDS,
+                 scans: float = 0.0, read_scan: Read | None = None) -> None:
         self.room = room
-        self._read = read
+        self._read, self._read_scan, self._scans = read, read_scan or _scanned, scans
         self._until = time.monotonic() + seconds
         self._fresh = os.path.join(nights.FOLDER, room, nights.NEW)
         self._refused = 0
         self._waits: deque[tuple[bytes, Future[tuple[State, str]]]] = deque()
         self._sums: list[tuple[str, bytes]] = []
-        self.read = 0
+        self.read = self.scans = 0
 
     def _text(self, data: bytes) -> tuple[State, str]:
         """Others may be read at the same moment, of another room."""
@@ -119,6 +124,7 @@ class Night:
                     self._waits.append((total, pool.submit(self._text, data)))
                     self._settle(making, WAITING)
                 self._settle(making, 0)
+            self._have_scans_read(making, file)
             making.end({"at": at, "night": night})
         finally:
             making.close()
@@ -134,6 +140,22 @@ class Night:
                 self._waits.clear()
                 self._until = 0.0
                 raise NobodyReads
+
+    def _have_scans_read(self, making: Making, file: str) -> None:
+        """One after the other. Those of which it isn't the turn are scans in the next night too."""
+        until = time.monotonic() + self._scans
+        for _, _, data in documents(file) if self._scans else ():
+            total = sum_of(data)
+            if making.state(total) is not State.NONE or not scan.is_scan(data):
+                continue
+            if time.monotonic() > until:
+                return
+            state, text = self._read_scan(data)
+            if state.may_change:
+                # (nobody reads scans here)
+                return
+            self.scans += 1
+            making.put(total, state, folded(plain(text)).encode())
 
     def _keep(self, making: Making, at: int) -> Counter[State]:
         """It gets its name, and what was before goes."""
@@ -158,16 +180,21 @@ class Night:
         os.rename(f"{place}.new", place)
 
 
+def _scanned(data: bytes) -> tuple[State, str]:
+    return feed.text_of(data, SCANS, SCAN_SECONDS)
+
+
 def run() -> int:
     room = os.environ.get("ROOM", "")
     if not names.is_room(room):
         raise SystemExit("rooms-service: ROOM is no name of a room: its unit starts this")
     os.umask(0o077)
-    signal.alarm(LONGEST)
     folder = os.path.join(nights.FOLDER, f"{room}.copy")
     with open(f"{folder}/about", "rb") as source:
         about = json.loads(source.read(4096))
-    night = Night(room)
+    scans = 60 * int(about["scans"])
+    signal.alarm(LONGEST + scans)
+    night = Night(room, scans=scans)
     try:
         states = night.make(f"{folder}/room", int(about["at"]), str(about["night"]))
     except NobodyReads:
@@ -176,6 +203,6 @@ def run() -> int:
     except FAULTS as fault:
         print(f"the copy can't be read: {fault}", file=sys.stderr)
         return 1
-    print(f"{states.total()} documents, {night.read} read tonight, "
+    print(f"{states.total()} documents, {night.read} read tonight, {night.scans} scans, "
           f"{states.total() - states[State.WHOLE]} without all of their text", flush=True)
     return 0

@@ -12,6 +12,8 @@ class State(Enum):
     CUT = "cut"
     # It has no text: a picture, a program, a kind that isn't read.
     NONE = "none"
+    # Nor have its pictures.
+    BLANK = "blank"
     # A password is needed.
     CLOSED = "closed"
     BROKEN = "broken"

@@ -192,7 +192,8 @@ class Search:
         for hit, read in zip(again, self.texts.reading.each(
                 [bodies[hit.node] for hit in again], self.words, SHOWN_SECONDS), strict=True):
             is_same = sum_of(bodies[hit.node]) == sums[hit.node]
-            if not is_same or read.state not in (State.LATER, State.LATE):
+            # (by day nobody reads a scan)
+            if not is_same or read.state not in (State.LATER, State.LATE, State.NONE):
                 hit.count, hit.shown = read.places, read.shown
                 self.unread += read.state is State.LATER
         shown = [hit for hit in first if hit.count and (
