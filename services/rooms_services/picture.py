@@ -4,9 +4,9 @@ unit allows is ended, and has no picture."""
 import re
 
 from rooms_admin.host import commands
+from rooms_admin.room.in_parts import LARGEST
 
 from . import apart
-from .room.room import LARGEST
 
 # Of the longer side: a page of A4 has then 170 dots an inch.
 SIDE = 2000

@@ -12,10 +12,11 @@ FIELDS = 20480
 
 def written(answer: Answer) -> bytes:
     """Without the parts of one that has these: whoever sends them breaks off where one fails."""
+    length = len(answer.body) if answer.parts is None else answer.length
     lines = [f"Status: {answer.status} {reason(answer.status)}",
              *([f"Content-Type: {answer.kind}"] if answer.kind else []),
              *(f"{name}: {text}" for name, text in answer.fields.items()),
-             *([f"Content-Length: {len(answer.body)}"] if answer.parts is None else []), "", ""]
+             *([] if length is None else [f"Content-Length: {length}"]), "", ""]
     return "\r\n".join(lines).encode("ascii") + answer.body
 
 

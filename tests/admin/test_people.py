@@ -293,6 +293,16 @@ class Places(unittest.TestCase):
         self.assertEqual([one["path"] for one in found["*"].places], ["/a/b/e"])
         self.assertNotIn("ANONYMOUS@", found)
 
+    def test_a_document_in_parts_is_one(self) -> None:
+        head = REVIEW.split("\n", maxsplit=1)[0]
+        rows = [f"/closed/x{end},document,bob,r,no" for end in (
+            "", "~rooms-part-0001", "~rooms-part-0002", "y~rooms-part-0001")]
+        found, _ = further_down.places(line + "\n" for line in [head, *rows])
+        [one] = found.values()
+        self.assertEqual([place["path"] for place in one.places],
+                         ["/closed/x", "/closed/xy~rooms-part-0001"])
+
+
     def test_no_name_is_a_path(self) -> None:
         """A copy of a room may have the program say anything: each name becomes one of a file."""
         for name in ("../../run/by-root", "a/b", "", "\x1b]0;x", "*/..", "a" * 65, "bob\n"):

@@ -215,8 +215,8 @@ class Lists(unittest.TestCase):
         bad = {"FILE": "x", "PORT": "0", "BACKUPS": "x", "KEEP": "-1", "MEMORY": "99",
                "LIMIT": "0", "STANDBY": "x", "MAIL": "-x", "REVIEW": "/x/", "REVIEWER": "a b",
                "UNIT": "-x", "PROGRAM": "x", "PASSWORDS": "none", "HOST": "a b", "BEHIND": "no",
-               "DRIVE": "no", "DATES": "yes", "DATES_NAMES": "", "GUESTS": "no", "PEOPLE": "all",
-               "OWN_PASSWORDS": "", "SEARCH": "", "SEARCH_SCANS": "121",
+               "DRIVE": "no", "LARGEST": "0", "DATES": "yes", "DATES_NAMES": "", "GUESTS": "no",
+               "PEOPLE": "all", "OWN_PASSWORDS": "", "SEARCH": "", "SEARCH_SCANS": "121",
                "EARLIER": "yes", "EARLIER_FROM": "2026-11", "HOURS": "1000"}
         self.assertEqual({*bad, "TITLE"}, set(settings.known(settings.Room)))
         with tempfile.TemporaryDirectory() as at:

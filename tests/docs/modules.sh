@@ -73,7 +73,7 @@ alone 'a room is asked by services' 'HTTP/1[.]1 \(|Room-User: |GET /can' \
 mapfile -t of_door < <(cd "$repo" && printf '%s\n' services/rooms_services/{room/,door/{,*/}}*.py)
 alone 'a list is read at the door' '[.]split\(b?":"|removeprefix\(b?"list:' \
   services/rooms_services/room/lists.py "${of_door[@]}"
-alone 'a tag is made' 'sha256\(' services/rooms_services/room/tags.py "${of_door[@]}"
+alone 'a tag is made' 'sha256\(|\btag_in\(' services/rooms_services/room/tags.py "${of_door[@]}"
 alone 'who could have changed it is said' 'def holders|changersBy|inForce\([^)]*'"'[wa]*C'" \
   services/rooms_services/door/folders/holders.py "${of_door[@]}" 'web/net/*.js' 'web/share/*.js'
 # What a list grants is asked of the program. Only these know of a part of it how it decides: by

@@ -159,8 +159,9 @@ sed -i 's#^BACKUPS=.*#BACKUPS=/var/backups/rooms#' machine/etc/rooms/office.conf
 # The settings are those of the scripts and of systemd: names, '=' and values alone.
 for room in office invoices hr; do
   grep -vE '^(#|$)' "machine/etc/rooms/$room.conf" | sed 's/=.*//' | tr '\n' ' ' >got
-  echo FILE PORT DRIVE DATES DATES_NAMES TITLE HOST BEHIND PASSWORDS GUESTS OWN_PASSWORDS BACKUPS \
-    KEEP EARLIER EARLIER_FROM MEMORY LIMIT STANDBY HOURS MAIL REVIEW REVIEWER PEOPLE UNIT PROGRAM |
+  echo FILE PORT DRIVE LARGEST DATES DATES_NAMES SEARCH SEARCH_SCANS TITLE HOST BEHIND \
+    PASSWORDS GUESTS OWN_PASSWORDS BACKUPS KEEP EARLIER EARLIER_FROM MEMORY LIMIT STANDBY \
+    HOURS MAIL REVIEW REVIEWER PEOPLE UNIT PROGRAM |
     tr '\n' ' ' >wanted
   same "the settings of $room" got wanted
 done

@@ -10,9 +10,9 @@ fi
 services=$repo/services
 printf '%s\n' '[mypy]' 'strict = True' "cache_dir = $PWD/mypy" >mypy.ini
 if has mypy; then
-  MYPYPATH=$services:$repo/admin:$here/services mypy --config-file mypy.ini \
+  MYPYPATH=$services:$repo/admin:$here/services:$here/model mypy --config-file mypy.ini \
     "$services"/rooms_services/{room,door} \
-    "$here"/services/{fake_room,over,tree,test_door*}.py \
+    "$here"/services/{fake_room,judged_room,large_over,over,tree,test_door*}.py \
     "$here"/services/{lab,evaluated,at_once,cut_off,hostile,harm,locked}.py >"$work/out" 2>&1
   status=$?
   holds "mypy --strict: $(tail -n 5 "$work/out")" [ "$status" = 0 ]

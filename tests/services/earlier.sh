@@ -2,7 +2,7 @@
 # happens when parts of it are killed or hang.
 
 . "$here/lib/earlier.sh"
-for suite in "$here"/services/test_earlier.py; do
+for suite in "$here"/services/test_earlier*.py; do
   (cd "$here/services" && PYTHONPATH=$repo/services:$repo/admin python3 -B -m unittest \
     "$(basename "$suite" .py)") >"$work/out" 2>&1
   status=$?

@@ -4,6 +4,7 @@ Rights are a set of denials: (user, path, letter). All else is allowed."""
 import json
 import os
 import socketserver
+from typing import Protocol
 from urllib.parse import unquote
 
 Path = tuple[str, ...]
@@ -147,7 +148,7 @@ class FakeRoom:
 class _Handler(socketserver.StreamRequestHandler):
     def handle(self) -> None:
         """One connection, up to its end."""
-        room: FakeRoom = self.server.room  # type: ignore[attr-defined]
+        room: Answers = self.server.room  # type: ignore[attr-defined]
         room.connections.append(0)
         while line := self.rfile.readline():
             room.connections[-1] += 1
@@ -169,11 +170,17 @@ class _Handler(socketserver.StreamRequestHandler):
                              .encode() + bytes_)
 
 
+class Answers(Protocol):
+    connections: list[int]
+
+    def answer(self, user: str, method: str, target: str, body: bytes) -> Said: ...
+
+
 class Served(socketserver.UnixStreamServer):
     """One connection after the other, as the room does."""
     request_queue_size = 128
 
-    def __init__(self, place: str, room: FakeRoom) -> None:
+    def __init__(self, place: str, room: Answers) -> None:
         if os.path.lexists(place):
             os.unlink(place)
         self.room = room

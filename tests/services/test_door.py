@@ -304,7 +304,8 @@ class Matched(Over):
     def test_over_one_connection(self) -> None:
         before = len(self.room.connections)
         self.put("/door/doc/f/a", "x", If_Match="*")
-        self.assertEqual(self.room.connections[before:], [2])
+        # (the look, whether it has parts, and the change)
+        self.assertEqual(self.room.connections[before:], [3])
 
     def test_nothing_is_there(self) -> None:
         self.assertEqual(self.put("/door/doc/f/b", "x", If_None_Match="*")[0], 201)

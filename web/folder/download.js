@@ -19,17 +19,23 @@ export function save(blob, name) {
 }
 
 // Fetches the bytes first, so that a denial can be shown as a sentence.
-export async function downloadOne(path) {
-  const { blob, tag } = await waitFor(readTagged('doc', path));
-  save(blob, api.nameOf(path));
+export const downloadOne = (path) => saveWhole(api.nameOf(path), async (signal) => {
+  const { blob, tag } = await readTagged('doc', path, signal);
   await noteTag(path, tag);
-}
+  return blob;
+}, SOON);
 
-// What 'fetches' gets is saved under this name, unless somebody stops it before.
-export async function saveWhole(name, fetches) {
+// How long something may take that nobody wants to stop.
+const SOON = 1000;
+
+// What 'fetches' gets is saved under this name, unless somebody stops it before. 'pause' is how
+// long it isn't said that it is under way.
+export async function saveWhole(name, fetches, pause = 0) {
   const stopping = new AbortController();
   const stop = button(texts.acts.stop, () => stopping.abort(), { class: 'small' });
-  const panel = newPanel(texts.acts.download, isolated(name), stop);
+  const show = () => newPanel(texts.acts.download, isolated(name), stop);
+  let panel = pause === 0 ? show() : null;
+  const timer = setTimeout(() => { panel ??= show(); }, pause);
   try {
     const blob = await waitFor(fetches(stopping.signal));
     if (blob === null) tell('bad', texts.folder.tooMany);
@@ -37,7 +43,8 @@ export async function saveWhole(name, fetches) {
   } catch (fault) {
     if (!stopping.signal.aborted) throw fault;
   } finally {
-    panel.remove();
+    clearTimeout(timer);
+    panel?.remove();
   }
 }
 

@@ -1,6 +1,7 @@
 // What an upload has to send, and the lines that tell how far it is.
 
 import * as api from '../net/api.js';
+import { mostBytes } from '../net/large.js';
 import { texts } from '../language/language.js';
 import { element, icon, nameText } from '../ui/dom.js';
 import { isolated, nameFault } from '../text/words.js';
@@ -13,8 +14,8 @@ export const normal = (name) => name.normalize('NFC');
 const newJob = (path, folder, file) => (
   { path: api.join(folder, path), name: path, file, state: 'waits', words: '', part: 0 });
 
-export const faultOf = ({ name, file }) => (file.size > api.GREATEST_DOCUMENT
-  ? texts.faults.largeFile(api.GREATEST_DOCUMENT)
+export const faultOf = ({ name, file }) => (file.size > mostBytes()
+  ? texts.faults.largeFile(mostBytes())
   : name.split('/').map(nameFault).find((fault) => fault !== null) ?? null);
 
 function newLine(mark, name) {

@@ -32,11 +32,12 @@ export async function hasSame({ path, file }) {
 // which the tag 'seen' was seen. 'ask' says what is to be done where it isn't that any more; to
 // keep both changes the path. Returns whether it was made by that, or null if all was left as it
 // was.
-export async function putSafely(job, isThere, ask, onProgress) {
+export async function putSafely(job, isThere, ask, onProgress, signal = null) {
   let fields = isThere ? only(job.seen) : NEW;
   for (;;) {
     try {
-      const { made, tag } = await putDocument(job.path, job.file, fields, onProgress);
+      const { made, tag } = await putDocument(job.path, job.file, fields, onProgress,
+        signal);
       await noteTag(job.path, tag);
       return made;
     } catch (fault) {

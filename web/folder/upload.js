@@ -113,14 +113,15 @@ class Upload {
     }
     this.set(job, { state: 'runs', allowed: true });
     const made = await putSafely(job, job.isThere === true, this.ask, (sent, whole) =>
-      this.set(job, { part: whole === 0 ? 1 : sent / whole }));
+      this.set(job, { part: whole === 0 ? 1 : sent / whole }), this.stopping.signal);
     this.set(job, made === null ? LEFT : { state: 'good', made });
     return this.onSome();
   }
 
-  // What is on its way arrives; the rest isn't sent, and can be later.
+  // The rest isn't sent, and can be later.
   halt() {
     this.isStopped = true;
+    this.stopping.abort();
     this.stop.hidden = true;
     this.cut(this.queue ?? []);
   }
@@ -137,7 +138,9 @@ class Upload {
       try {
         await this.sendOne(job);
       } catch (refusal) {
-        this.set(job, { state: 'bad', words: wordsOf(refusal), again: true });
+        const isHere = refusal.status === api.STOPPED;
+        this.set(job, { state: 'bad', again: true,
+          words: isHere ? texts.upload.notSent : wordsOf(refusal) });
         if (refusal.status === 401) tellFault(refusal);
         if (endsAll(refusal)) this.cut(queue);
       }
@@ -163,6 +166,7 @@ class Upload {
   async run() {
     this.again.hidden = this.close.hidden = true;
     this.stop.hidden = this.isStopped = false;
+    this.stopping = new AbortController();
     for (const job of this.withState('bad').filter(({ again }) => again)) {
       this.set(job, { state: 'waits', words: '', part: 0, again: false });
     }

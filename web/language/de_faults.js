@@ -41,6 +41,13 @@ const CONFLICTS = {
   root: 'Die oberste Ebene des Raums kann nicht entfernt oder verschoben werden.',
   loop: 'Ein Ordner kann nicht in sich selbst oder in einen seiner Unterordner verschoben werden. '
     + 'Wählen Sie eine andere Stelle.',
+  'no-place': (at) => `Was an ${at} liegt, gehört jemand anderem, und eine so große Datei passt `
+    + 'nicht an seine Stelle. Laden Sie sie unter einem anderen Namen hoch, oder lassen Sie den '
+    + 'Besitzer es ersetzen.',
+  'not-whole': (at) => `Von dem, was an ${at} liegt, fehlt ein Teil. Wurde es gerade verschoben, `
+    + 'so verschieben Sie es noch einmal an dieselbe Stelle; sonst holen Sie ein früheres zurück.',
+  'left-over': (at) => `Von einem abgebrochenen Hochladen sind an ${at} noch Teile da. Entfernen `
+    + 'Sie sie, oder wählen Sie einen anderen Namen.',
 };
 
 const STATUSES = {
@@ -86,8 +93,8 @@ const OF_DOOR = {
     + 'Laden Sie den Ordner neu.',
 };
 
-const MOST = (bytes) => `hat mehr als ${number(bytes)} Bytes (1 MiB); mehr darf ein Dokument nicht `
-  + 'haben. Verkleinern Sie es, oder teilen Sie es auf.';
+const MOST = (bytes) => `hat mehr als ${number(bytes)} Bytes (${number(bytes / 1048576)} MiB); `
+  + 'mehr darf ein Dokument nicht haben. Verkleinern Sie es, oder teilen Sie es auf.';
 
 export const DE_FAULTS = {
   ofLists: OF_LISTS,

@@ -34,6 +34,12 @@ const CONFLICTS = {
   'not-empty': (at) => `${at} isn’t empty. Remove or move what is in it first.`,
   root: 'The top of the room can’t be removed or moved.',
   loop: 'A folder can’t be moved into itself or into a folder below it. Choose another place.',
+  'no-place': (at) => `${at} belongs to somebody else, and so large a file doesn’t fit into its `
+    + 'place. Upload it under another name, or have its owner replace it.',
+  'not-whole': (at) => `A part of ${at} is missing. If it was being moved, move it again to the `
+    + 'same place; otherwise put back an earlier one.',
+  'left-over': (at) => `Parts of an upload of ${at} that was broken off are still there. Remove `
+    + 'them, or choose another name.',
 };
 
 const STATUSES = {
@@ -74,8 +80,8 @@ const OF_DOOR = {
     + 'folder again.',
 };
 
-const MOST = (bytes) => `has more than ${number(bytes)} bytes (1 MiB), which is the most a `
-  + 'document may have. Make it smaller, or cut it into parts.';
+const MOST = (bytes) => `has more than ${number(bytes)} bytes (${number(bytes / 1048576)} MiB), `
+  + 'which is the most a document may have. Make it smaller, or cut it into parts.';
 
 export const EN_FAULTS = {
   ofLists: OF_LISTS,

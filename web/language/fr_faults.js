@@ -40,6 +40,14 @@ const CONFLICTS = {
   root: 'Le niveau supérieur de la salle ne peut être ni supprimé ni déplacé.',
   loop: 'Un dossier ne peut pas être déplacé dans lui-même ni dans un de ses sous-dossiers. '
     + 'Choisissez un autre endroit.',
+  'no-place': (at) => `Ce qui se trouve à ${at} appartient à quelqu’un d’autre, et un fichier `
+    + 'aussi grand n’y tient pas. Envoyez-le sous un autre nom, ou demandez à son propriétaire de '
+    + 'le remplacer.',
+  'not-whole': (at) => `Il manque une partie de ce qui se trouve à ${at}. Si un déplacement était `
+    + 'en cours, déplacez-le encore une fois au même endroit ; sinon, rétablissez une version '
+    + 'précédente.',
+  'left-over': (at) => `À ${at}, il reste des parties d’un envoi interrompu. Supprimez-les, ou `
+    + 'choisissez un autre nom.',
 };
 
 const STATUSES = {
@@ -82,8 +90,8 @@ const OF_DOOR = {
     + 'Rechargez le dossier.',
 };
 
-const MOST = (bytes) => `plus de ${number(bytes)} octets (1 Mio), le maximum pour un document. `
-  + 'Réduisez-le ou découpez-le.';
+const MOST = (bytes) => `plus de ${number(bytes)} octets (${number(bytes / 1048576)} Mio), le `
+  + 'maximum pour un document. Réduisez-le ou découpez-le.';
 
 export const FR_FAULTS = {
   ofLists: OF_LISTS,

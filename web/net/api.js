@@ -1,11 +1,13 @@
 // The requests of docs/http.md and their replies, as promises. Nothing here draws the page.
 
 import { heard } from './clock.js';
+import { hearMost, withoutParts } from './large.js';
 import { untilAnswered } from './retry.js';
 
-export const GREATEST_DOCUMENT = 1048576;
 // The status of a file that this computer can't read any more.
 export const UNREADABLE = -1;
+// The status of what its user stopped.
+export const STOPPED = -2;
 
 // A reply that isn't 2xx. Status 0 is no reply at all. 'body' is the reply's JSON, or null, and
 // 'asked' says what was asked for: {method, word, path}.
@@ -47,7 +49,7 @@ export function jsonOrNull(text) {
 }
 
 async function askOnce(method, word, path, body, query = '') {
-  const asked = { method, word, path };
+  const asked = { method, word: word.replace('door/', ''), path };
   const where = word === 'me' ? 'me' : target(word, path) + query;
   let reply;
   try {
@@ -56,9 +58,21 @@ async function askOnce(method, word, path, body, query = '') {
     throw new Refusal(0, null, asked);
   }
   if (!reply.ok) {
-    throw new Refusal(reply.status, jsonOrNull(await reply.text().catch(() => '')), asked);
+    const told = jsonOrNull(await reply.text().catch(() => ''));
+    const fault = new Refusal(reply.status, told, asked);
+    if (word.startsWith('door/')) fromDoor(fault);
+    throw fault;
   }
   return reply;
+}
+
+// The door says that the room is away where nginx would say that there is no answer. A fault says
+// that it is the door's.
+/** @returns {never} */
+export function fromDoor(fault) {
+  if (fault.asked) fault.asked.isOfDoor = true;
+  const isAway = fault.status === 503 && Boolean(fault.body?.why);
+  throw isAway ? Object.assign(fault, { status: 502 }) : fault;
 }
 
 // What adds to a document would add twice, if only the answer was lost.
@@ -75,13 +89,15 @@ export const take = (form, word, path, query) => untilAnswered(async () => {
 export async function me() {
   const { headers } = await ask('GET', 'me', '/');
   heard(headers.get('Room-Time'));
+  hearMost(headers.get('Room-Largest'));
   return { user: headers.get('Room-User') ?? '', isFirst: headers.has('Room-First') };
 }
 
 export const whoAmI = async () => (await me()).user;
 
-export const read = (path) => take('blob', 'doc', path);
-export const list = (path) => take('json', 'folder', path);
+// The door knows which documents are in parts, and does with all of them what is asked.
+export const read = (path) => take('blob', 'door/doc', path);
+export const list = async (path) => withoutParts(await take('json', 'folder', path));
 
 // What was sent several times may have been done by the first. 'isDone' looks at what the last one
 // got.
@@ -97,13 +113,13 @@ const isGone = (path) => ({ status, body }) => status === 404 && body?.at === pa
 
 export const makeFolder = (path) =>
   onceDone(ask('POST', 'folder', path), ({ body }) => body?.why === 'exists');
-export const remove = (path) => onceDone(ask('DELETE', 'object', path), isGone(path));
-export const move = (path, to) => onceDone(ask('POST', 'move', path, JSON.stringify({ to })),
+export const remove = (path) => onceDone(ask('DELETE', 'door/object', path), isGone(path));
+export const move = (path, to) => onceDone(ask('POST', 'door/move', path, JSON.stringify({ to })),
   async (fault) => isGone(path)(fault) && isThere(to));
 export const readList = (which, path) => take('text', which, path);
 export const readAttributes = (path) => take('json', 'attr', path);
 export const setOwners = (path, owner, group) =>
-  ask('PUT', 'attr', path, JSON.stringify({ group, owner }));
+  ask('PUT', 'door/attr', path, JSON.stringify({ group, owner }));
 
 // The ruling of each letter: {r: {ruling: 'allowed', place: 2}, w: {ruling: 'silent', place:
 // null}}.
@@ -129,7 +145,7 @@ export async function isThere(path) {
 
 // XMLHttpRequest, since fetch doesn't report an upload's progress. Resolves to whether it was made,
 // and to the tag that the door says.
-export function putOnce(word, path, bytes, fields, onProgress) {
+export function putOnce(word, path, bytes, fields, onProgress, signal = null) {
   return new Promise((resolve, reject) => {
     const asking = new XMLHttpRequest();
     const asked = { method: 'PUT', word: 'doc', path };
@@ -138,10 +154,11 @@ export function putOnce(word, path, bytes, fields, onProgress) {
     asking.upload.onprogress = (event) => onProgress(event.loaded, event.total);
     // A file that was changed or removed since it was chosen fails as a lost connection does.
     asking.onerror = async () => {
-      const isRead = await bytes.arrayBuffer().then(() => true, () => false);
+      const isRead = await bytes.slice(0, 1).arrayBuffer().then(() => true, () => false);
       reject(new Refusal(isRead ? 0 : UNREADABLE, null, asked));
     };
-    asking.onabort = asking.onerror;
+    asking.onabort = () => reject(new Refusal(STOPPED, null, asked));
+    signal?.addEventListener('abort', () => asking.abort());
     asking.onload = () => {
       if (asking.status >= 200 && asking.status < 300) {
         resolve({ made: asking.status === 201, tag: asking.getResponseHeader('ETag') });

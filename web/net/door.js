@@ -1,22 +1,14 @@
 // The door beside the room, which answers in one request what would take thousands (docs/door.md).
 
-import { Refusal, jsonOrNull, namesOf, putOnce, target } from './api.js';
+import { Refusal, STOPPED, fromDoor, jsonOrNull, namesOf, putOnce, target } from './api.js';
+import { DOCUMENT_OF_ROOM } from './large.js';
 import { untilAnswered } from './retry.js';
 
 // What the room would be asked for, so that a refusal is told in the same words.
 const WORDS = {
   below: 'folder', closed: 'folder', find: 'folder', goes: 'folder', latest: 'folder',
-  pages: 'doc', search: 'folder', zip: 'folder',
+  pages: 'doc', places: 'doc', search: 'folder', zip: 'folder',
 };
-
-// The door says that the room is away where nginx would say that there is no answer. A fault says
-// that it is the door's.
-/** @returns {never} */
-function fromDoor(fault) {
-  if (fault.asked) fault.asked.isOfDoor = true;
-  const isAway = fault.status === 503 && Boolean(fault.body?.why);
-  throw isAway ? Object.assign(fault, { status: 502 }) : fault;
-}
 
 // Sends until there is an answer, for half a minute.
 const insisting = (send) => untilAnswered(() => send().catch(fromDoor));
@@ -24,7 +16,7 @@ const insisting = (send) => untilAnswered(() => send().catch(fromDoor));
 // The reply in a form that fetch has, with its tag. 'given' is what fetch takes.
 async function ask(method, word, path, form, query = '', given = {}) {
   const asked = { method, word: WORDS[word] ?? word, path };
-  const lost = () => { throw new Refusal(0, null, asked); };
+  const lost = () => { throw new Refusal(given.signal?.aborted ? STOPPED : 0, null, asked); };
   const reply = await fetch(target(`door/${word}`, path) + query,
     { method, cache: 'no-store', ...given }).catch(lost);
   if (!reply.ok) {
@@ -138,8 +130,9 @@ export async function zipped(folder, names, signal) {
 }
 
 // A document or a list with the tag that says which bytes it has: {blob, tag}.
-export const readTagged = (word, path) => insisting(() => ask('GET', word, path, 'blob'))
-  .then(({ told, tag }) => ({ blob: told, tag }));
+export const readTagged = (word, path, signal = undefined) =>
+  insisting(() => ask('GET', word, path, 'blob', '', { signal }))
+    .then(({ told, tag }) => ({ blob: told, tag }));
 
 // A page of a PDF as a picture, {blob, tag, pages}, with how many pages there are; null where no
 // pictures are made. If the document isn't the one with 'tag' any more, it is refused with 412.
@@ -158,9 +151,15 @@ export const changersOf = (word, path) =>
 export const tagAt = (path) => insisting(() => ask('HEAD', 'doc', path, 'text'))
   .then(({ tag }) => tag);
 
-// Sent only if 'fields', a condition, hold; otherwise it is refused with 412. Returns {made, tag}.
-export const putDocument = (path, bytes, fields, onProgress = () => {}) =>
-  insisting(() => putOnce('door/doc', path, bytes, fields, onProgress));
+// Sent only if 'fields', a condition, hold; otherwise it is refused with 412. What can't take so
+// many bytes is refused before they are sent. Returns {made, tag}.
+export async function putDocument(path, bytes, fields, onProgress = () => {}, signal = null) {
+  if (bytes.size > DOCUMENT_OF_ROOM) {
+    await insisting(() => ask('POST', 'places', path, 'text', `?${bytes.size}`,
+      { headers: fields }));
+  }
+  return insisting(() => putOnce('door/doc', path, bytes, fields, onProgress, signal));
+}
 
 export const putList = (which, path, text, fields) =>
   insisting(() => ask('PUT', which, path, 'text', '', { body: text, headers: fields }));

@@ -2,6 +2,7 @@
 // today's let the caller see it.
 
 import { Refusal, jsonOrNull, take, target } from './api.js';
+import { withoutParts } from './large.js';
 
 // Whether the room shows any: null as long as nobody asked.
 let isShown = null;
@@ -30,7 +31,8 @@ export async function nightsKept() {
   if (!reply?.ok || !told) throw new Refusal(reply?.status ?? 0, told, asked);
   return told;
 }
-export const folderThen = (night, path) => then('json', night, 'folder', path);
+export const folderThen = async (night, path) =>
+  withoutParts(await then('json', night, 'folder', path));
 export const documentThen = (night, path) => then('blob', night, 'doc', path);
 export const listThen = (night, path) => then('text', night, 'dacl', path);
 

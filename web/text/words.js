@@ -1,7 +1,8 @@
 // Letters, entries and faults in the words of an office.
 
 import { isGroup, isInherited, readEntry } from '../acl/entries.js';
-import { GREATEST_DOCUMENT, UNREADABLE, namesOf } from '../net/api.js';
+import { UNREADABLE, namesOf } from '../net/api.js';
+import { mostBytes } from '../net/large.js';
 import { texts } from '../language/language.js';
 import { fullName } from '../net/directory.js';
 import { doorWords } from './door_words.js';
@@ -151,8 +152,7 @@ function answerWords(fault, ask) {
   if (status === 409) return conflictWords(body?.why, at);
   if (doorWords(fault) !== null) return doorWords(fault);
   if (status === 413) {
-    return body?.at ? texts.faults.largeAt(at, GREATEST_DOCUMENT)
-      : texts.faults.largeThis(GREATEST_DOCUMENT);
+    return body?.at ? texts.faults.largeAt(at, mostBytes()) : texts.faults.largeThis(mostBytes());
   }
   if (status === 422) return faultWords(body?.why?.split(' ')[1]);
   const word = { 0: 'lost', [UNREADABLE]: 'unreadable' }[status] ?? status;

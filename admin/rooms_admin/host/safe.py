@@ -5,7 +5,7 @@ import fcntl
 import os
 import secrets
 import stat
-from collections.abc import Iterator
+from collections.abc import Iterable, Iterator
 from contextlib import contextmanager, suppress
 from typing import BinaryIO
 
@@ -134,13 +134,15 @@ def write_all(number: int, data: bytes) -> None:
         rest = rest[os.write(number, rest):]
 
 
-def new_file(within: int, name: bytes | str, data: bytes, mode: int = 0o666) -> None:
+def new_file(within: int, name: bytes | str, data: bytes | Iterable[bytes],
+             mode: int = 0o666) -> None:
     """A file that wasn't there, whole or not at all."""
     number = os.open(name, os.O_WRONLY | os.O_CREAT | os.O_EXCL | os.O_NOFOLLOW | os.O_CLOEXEC,
                      mode, dir_fd=within)
     try:
         with opened(number):
-            write_all(number, data)
+            for part in [data] if isinstance(data, bytes) else data:
+                write_all(number, part)
     except BaseException:
         os.unlink(name, dir_fd=within)
         raise

@@ -5,7 +5,7 @@ from collections.abc import Iterable
 from dataclasses import dataclass, field
 
 from ..host import safe
-from ..room import published
+from ..room import in_parts, published
 from ..backup import texts
 from ..lists import review
 from ..room.settings import Room
@@ -43,6 +43,10 @@ def places(lines: Iterable[str]) -> tuple[dict[str, One], list[str]]:
                 managers.append(row.user)
         elif set(row.rights) & set("rwa") and "r" not in one.rights(above(row.path)):
             one.places.append({"path": row.path, "kind": row.kind, "rights": row.rights})
+    for one in found.values():
+        # Of a document in parts each has its list.
+        parts = in_parts.hidden(place["path"] for place in one.places)
+        one.places = [place for place in one.places if place["path"] not in parts]
     return found, managers
 
 

@@ -11,13 +11,15 @@ import time
 import urllib.error
 import urllib.parse
 import urllib.request
-from dataclasses import dataclass
-from typing import Any
+from collections.abc import Mapping
+from dataclasses import dataclass, field
+from typing import Any, BinaryIO
 
 from ..cli import report, words
 from ..host.at_socket import AtSocket
 from . import names, settings
 from ..cli.report import Refused, Stop, say
+from .in_parts import LARGEST
 from .settings import Room, is_this_machine
 
 
@@ -25,6 +27,7 @@ from .settings import Room, is_this_machine
 class Reply:
     status: int
     body: bytes
+    fields: Mapping[str, str] = field(default_factory=dict)
 
     def text(self) -> str:
         """What the room said, in one line."""
@@ -61,6 +64,13 @@ class _AsIs(urllib.request.HTTPErrorProcessor):
     https_response = http_response
 
 
+def _opener(*handlers: urllib.request.BaseHandler) -> urllib.request.OpenerDirector:
+    opener = urllib.request.OpenerDirector()
+    for handler in (*handlers, _AsIs()):
+        opener.add_handler(handler)
+    return opener
+
+
 @dataclass
 class Caller:
     user: str = ""
@@ -94,7 +104,8 @@ class Client:
     ends a run only if `ends_by_500`."""
 
     def __init__(self, address: str, caller: Caller, next_step: str, ends_by_500: bool,
-                 at_socket: str = "") -> None:
+                 at_socket: str = "", at_door: str = "", largest: int = 0) -> None:
+        """`at_door` is the socket of the room's door, which is elsewhere below its address."""
         parts = _parts(address)
         before, at, host = parts.netloc.rpartition("@")
         self.room = urllib.parse.urlunsplit((parts.scheme, host, parts.path.rstrip("/"), "", ""))
@@ -122,11 +133,12 @@ class Client:
             self._sign_in(f"{caller.user}:{_ask_password(caller.user)}")
         if self.log:
             self._write_log("")
-        self._opener = urllib.request.OpenerDirector()
-        for handler in (urllib.request.ProxyHandler({} if home else None), _AsIs(),
-                        _SocketHandler(at_socket) if at_socket else urllib.request.HTTPHandler(),
-                        urllib.request.HTTPSHandler(context=context)):
-            self._opener.add_handler(handler)
+        self._largest = largest
+        proxy = urllib.request.ProxyHandler({} if home else None)
+        https = urllib.request.HTTPSHandler(context=context)
+        self._opener, self._door = (_opener(
+            proxy, _SocketHandler(place) if place else urllib.request.HTTPHandler(), https)
+            for place in (at_socket, at_door or at_socket))
 
     def _sign_in(self, user: str) -> None:
         coded = base64.b64encode(user.encode(errors="surrogateescape")).decode()
@@ -166,15 +178,24 @@ class Client:
         except (OSError, ssl.SSLError) as fault:
             raise Refused(f"bad settings: {path}: {fault}") from fault
 
-    def ask(self, method: str, word: str, path: bytes, body: bytes | None = None) -> Reply:
+    def largest(self) -> int:
+        """How many bytes a document may have, as settings say, or the front end."""
+        if not self._largest:
+            told = self.ask("GET", "me", b"").fields.get("Room-Largest", "")
+            self._largest = max(LARGEST, int(told) if re.fullmatch("[0-9]{1,12}", told) else 0)
+        return self._largest
+
+    def ask(self, method: str, word: str, path: bytes, body: bytes | BinaryIO | None = None,
+            fields: dict[str, str] | None = None) -> Reply:
         target = f"/{word}{names.encoded(path)}"
         asked = urllib.request.Request(self.room + target, data=body, method=method,
-                                       headers=self.headers)
+                                       headers={**self.headers, **(fields or {})})
+        opener = self._door if word.startswith("door/") else self._opener
         try:
-            with self._opener.open(asked, timeout=300) as got:
+            with opener.open(asked, timeout=300) as got:
                 # Only listings are longer than a document.
                 most = 1 << 30 if word == "folder" else 4 << 20
-                reply = Reply(got.status, got.read(most + 1))
+                reply = Reply(got.status, got.read(most + 1), got.headers)
                 if len(reply.body) > most:
                     raise Stop(f"no reply: one of more than {most} bytes; {self.next_step}")
                 elsewhere = got.headers.get("Location", "")
@@ -228,7 +249,17 @@ def client(word: str, caller: Caller, next_step: str, ends_by_500: bool) -> Clie
         raise Refused(f"bad arguments: nobody asks for a password at the room {word} itself: --as "
                       "says who asks, or take its address")
     room = settings.room(word)
-    return Client(room.address, caller, next_step, ends_by_500, room.listens)
+    return Client(room.address, caller, next_step, ends_by_500, room.listens, room.door,
+                  most_of(word))
+
+
+def most_of(word: str) -> int:
+    """How many bytes a document may have, without a question to the room: of one elsewhere as many
+    as of any. Without a door none is kept in parts."""
+    if not is_here(word):
+        return LARGEST
+    room = settings.room(word)
+    return room.largest << 20 if os.path.exists(room.door) else LARGEST
 
 
 def _parts(address: str) -> urllib.parse.SplitResult:
@@ -271,4 +302,4 @@ def argument(text: str) -> bytes:
 
 
 __all__ = ["Caller", "Client", "Reply", "argument", "caller_arguments", "caller_of", "client",
-           "is_here", "raise_limits"]
+           "is_here", "most_of", "raise_limits"]

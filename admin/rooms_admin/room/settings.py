@@ -163,6 +163,8 @@ class Reached:
     host: str = setting("HOST", lambda text: not text or is_host(text), "a host's name")
     behind: bool = yes("BEHIND")
     drive: bool = yes("DRIVE")
+    largest: int = setting("LARGEST", r"[1-9][0-9]{0,3}", "a number of megabytes, 1 to 9999", "1",
+                           int)
     dates: str = setting("DATES", r"(when|who)?", "when, who or empty")
     search: bool = setting("SEARCH", r"yes|no", "yes or no", "no", lambda text: text == "yes")
     own_passwords: bool = setting("OWN_PASSWORDS", r"yes|no", "yes or no", "yes",
@@ -257,6 +259,11 @@ class Room(Kept):
         return place if not self.port or os.path.exists(place) else ""
 
     @property
+    def door(self) -> str:
+        """The path of the socket of its door."""
+        return os.path.join(locks.RUN, "rooms-door", self.name, "socket")
+
+    @property
     def address(self) -> str:
         """For requests to its own server."""
         return "http://localhost" if self.listens else f"http://127.0.0.1:{self.port}"
@@ -292,7 +299,7 @@ class Place(Reached):
 
 # The lines of a file NAME.on.
 ELSEWHERE = {one.name: one.default for one in of_kind(Place).values()
-             if one.name in ("TITLE", "ON", "PORT", "PASSWORDS", "OWN_PASSWORDS")}
+             if one.name in ("TITLE", "ON", "PORT", "LARGEST", "PASSWORDS", "OWN_PASSWORDS")}
 ELSEWHERE["PORT"] = "8443"
 
 # Lines that say nothing any more, with what each room has in their place.

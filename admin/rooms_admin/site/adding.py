@@ -275,6 +275,9 @@ TITLE={title}
 ON={on}
 PORT={port}
 
+# How large a document may be, in MB: no more than its machine takes (docs/large.md).
+LARGEST=1
+
 # Who checks its passwords, as with the rooms that are here. If it is empty, it is file. With
 # OWN_PASSWORDS=no only root changes those in the file.
 PASSWORDS=

@@ -152,10 +152,16 @@ def render(text: str, site: Site) -> str:
             ("DIRECTORY_FILES", files["directory"]), ("GUEST_FILES", files["guests"]),
             ("SESSION_FILES", files["session"]),
             ("OWN_FILES", files["own"]), ("HTTP2", " http2" if site.http2 == "listen" else ""),
+            ("LARGEST", _largest(shown)), ("LARGEST_BEHIND", _largest(site.behind)),
             ("ANSWER", f"{waits.ANSWER:.0f}"), ("NIGHT", f"{waits.NIGHT:.0f}"),
             ("NIGHT_THERE", f"{waits.NIGHT + 10:.0f}")):
         text = text.replace(f"@{name}@", value)
     return text.replace("@SUM@", _sum(text), 1)
+
+
+def _largest(rooms: list[Place]) -> str:
+    """What nginx takes for any of them. Each door knows what its own room takes."""
+    return f"{max((one.largest for one in rooms), default=1)}m"
 
 
 def _hidden(protocol: str) -> str:
@@ -217,6 +223,7 @@ def _maps(site: Site) -> dict[str, list[str]]:
         "THERE": [f"{one.name} {one.on}" for one in site.shown if one.on],
         "FLAGS": [f"{one.name} {one.flag}" for one in site.shown if not one.on],
         "DRIVES": [f"{one.name} yes" for one in site.shown if one.on or one.drive],
+        "LARGEST_OF": [f"{one.name} {one.largest << 20}" for one in site.shown if one.largest > 1],
         "DATES": [f"{one.name} {one.name}" for one in site.shown if one.notes_changes],
         "EARLIER": [f"{one.name} yes" for one in site.shown if one.on or one.shows_nights],
         "SESSIONS": [f"{one.name} 1" for one in site.shown if one.passwords == "session"],

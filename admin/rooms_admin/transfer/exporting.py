@@ -1,10 +1,12 @@
 """A folder of a room, or of a backup, as files."""
+import errno
 import json
 import os
+from collections.abc import Iterator
 
 from ..cli import report
 from ..host import safe
-from ..room import names, private_server, program, settings
+from ..room import in_parts, names, private_server, program, settings
 from ..lists import dump, entries
 from ..cli.report import Stop
 from ..room.http_client import Client, raise_limits
@@ -28,7 +30,7 @@ class Export:
             got = self.client.ask("GET", "doc", path)
             if got.status != 200:
                 self.client.report(path, f"not read: {got.text()}")
-            elif self.place(path, within, name, got.body):
+            elif self.place(path, within, name, self.parts(path, got.body)):
                 self.documents += 1
             return
         try:
@@ -50,6 +52,18 @@ class Export:
         for kind, name in children if self.lists else []:
             self.acl(kind, base + b"/" + name, at, name + b".acl")
 
+    def parts(self, path: bytes, body: bytes) -> Iterator[bytes]:
+        """The bytes of a document, which may have more than the room keeps in one."""
+        manifest = in_parts.read(body)
+        if manifest is None:
+            yield body
+            return
+        for index, (number, _) in enumerate(manifest.parts):
+            got = self.client.ask("GET", "doc", path + in_parts.end_of(number).encode())
+            if got.status != 200 or not manifest.is_part(index, got.body):
+                raise OSError(errno.EIO, f"part {number} is missing or was changed: {got.status}")
+            yield got.body
+
     def children(self, path: bytes) -> list[tuple[str, bytes]]:
         got = self.client.ask("GET", "folder", path)
         if got.status != 200:
@@ -58,8 +72,11 @@ class Export:
         found = []
         try:
             rows = json.loads(got.body.decode("utf-8", "surrogateescape"))
+            parts = in_parts.hidden(row["name"] for row in rows if row["kind"] == "document")
             for row in rows:
                 kind, name = row["kind"], row["name"].encode("utf-8", "surrogateescape")
+                if kind == "document" and row["name"] in parts:
+                    continue
                 if kind in ("folder", "document") and names.is_object(name):
                     found.append((kind, name))
                 else:
@@ -68,7 +85,7 @@ class Export:
             self.client.report(path, f"not listed: the reply is no listing: {fault}")
         return found
 
-    def place(self, path: bytes, within: int, name: bytes, data: bytes,
+    def place(self, path: bytes, within: int, name: bytes, data: bytes | Iterator[bytes],
               what: str = "not written") -> bool:
         """A name is never taken twice, and a file that can't be written to its end is removed."""
         try:

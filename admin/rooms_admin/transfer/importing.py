@@ -5,12 +5,11 @@ from dataclasses import dataclass, field
 
 from ..cli import report
 from ..host import safe
-from ..room import limit, names, settings
+from ..room import in_parts, limit, names, settings
 from ..cli.report import Refused, Stop, say
-from ..room.http_client import Client
+from ..room.http_client import Client, Reply
+from ..room.in_parts import LARGEST
 from ..room.size import NoRoom, Reader
-
-MOST = 1048576
 
 
 class Full(Refused):
@@ -90,7 +89,32 @@ class Import:
                 return
         if self.space:
             self.space.need(len(data))
-        got = self.client.ask("PUT", "doc", path, data)
+        self.told(self.client.ask("PUT", "doc", path, data), name)
+
+    def send_large(self, number: int, path: bytes, name: bytes) -> None:
+        """By the door, which keeps it in parts and has the same tag for the same bytes."""
+        most, size = self.client.largest(), os.fstat(number).st_size
+        if size > most:
+            self.client.report(name, f"more than {most} bytes")
+            return
+        there = self.client.ask("HEAD", "door/doc", path)
+        if there.status not in (200, 204, 404):
+            self.client.report(name, f"not sent: {there.text()}")
+        elif there.fields.get("ETag") == tag_of(number):
+            self.same += 1
+        elif there.status != 404 and not self.replace:
+            self.client.report(name, "not replaced: another document is there; --replace would "
+                               "replace it")
+        else:
+            if self.space:
+                self.space.need(size)
+            seen = {"If-None-Match": "*"} if there.status == 404 else {"If-Match": "*"}
+            os.lseek(number, 0, os.SEEK_SET)
+            with open(os.dup(number), "rb") as data:
+                self.told(self.client.ask("PUT", "door/doc", path, data, {
+                    **seen, "Content-Length": str(size)}), name)
+
+    def told(self, got: Reply, name: bytes) -> None:
         if got.status == 201:
             self.made += 1
         elif got.status == 204:
@@ -132,17 +156,25 @@ class Import:
                         self.folder(inner, target, below)
                     continue
                 with safe.opened(safe.file_below(at, child)) as number:
-                    data = safe.read_at_most(number, MOST)
+                    data = safe.read_at_most(number, LARGEST)
+                    if len(data) > LARGEST:
+                        self.send_large(number, target, below)
+                        continue
             except safe.NoFile as what:
                 self.client.report(below, str(what))
                 continue
             except OSError as fault:
                 self.client.report(below, f"can't be read: {fault.strerror}")
                 continue
-            if len(data) > MOST:
-                self.client.report(below, f"more than {MOST} bytes")
-            else:
-                self.send(data, target, below)
+            self.send(data, target, below)
+
+
+def tag_of(number: int) -> str:
+    os.lseek(number, 0, os.SEEK_SET)
+    whole = in_parts.Sum()
+    while part := os.read(number, LARGEST):
+        whole.add(part)
+    return in_parts.tag_in(whole.digest)
 
 
 def children(at: int) -> list[bytes]:
@@ -154,6 +186,8 @@ class Tally:
     """What is below a folder, by names alone: how many, and of which none is sent."""
     total: int = 0
     out: Counter[str] = field(default_factory=Counter)
+    # Of files of more than a room keeps in one document.
+    large: list[int] = field(default_factory=list)
 
     def look(self, at: int) -> None:
         for name in children(at):
@@ -175,10 +209,15 @@ class Tally:
             self.out["links"] += 1
         elif kind == "other":
             self.out["neither files nor folders"] += 1
-        elif os.stat(name, dir_fd=at, follow_symlinks=False).st_size > MOST:
-            self.out[f"of more than {MOST} bytes"] += 1
         elif not os.access(name, os.R_OK, dir_fd=at, effective_ids=True):
             self.out["that can't be read"] += 1
+        elif (size := os.stat(name, dir_fd=at, follow_symlinks=False).st_size) > LARGEST:
+            self.large.append(size)
+
+    def judge(self, most: int) -> None:
+        """Where a document may have so many bytes."""
+        if count := sum(size > most for size in self.large):
+            self.out[f"of more than {most} bytes"] = count
 
     def text(self) -> str:
         left = ", ".join(f"{number} {what}" for what, number in sorted(self.out.items()))

@@ -2,9 +2,10 @@
 folder with a room's files, the name of one in BACKUPS, or latest."""
 import argparse
 import sys
+from collections.abc import Iterator
 
 from ..cli import words
-from ..room import names, private_server, program, settings
+from ..room import in_parts, names, private_server, program, settings
 from ..backup import backups
 from ..cli.report import Refused, Stop
 from ..room.http_client import argument
@@ -23,10 +24,29 @@ def run(given: argparse.Namespace) -> int:
     room = settings.room(given.room)
     # A copy, since the program puts the log of a room that it opens into its file.
     with private_server.private_copy(room, backups.find(room, given.backup)) as copied:
-        status, out, text = program.on_copy(room, copied, ["get", path])
+        for part in _parts(room, copied, path):
+            sys.stdout.buffer.write(part)
+    sys.stdout.buffer.flush()
+    return 0
+
+
+def _got(room: settings.Room, copied: str, path: bytes) -> bytes:
+    status, out, text = program.on_copy(room, copied, ["get", path])
     if status != 0:
         why = text or out[:300].decode(errors="replace").strip() or f"status {status}"
         raise Stop(f"{names.shown(path)}: {why}")
-    sys.stdout.buffer.write(out)
-    sys.stdout.buffer.flush()
-    return 0
+    return out
+
+
+def _parts(room: settings.Room, copied: str, path: bytes) -> Iterator[bytes]:
+    """One after the other, of a document that has more than the room keeps in one."""
+    whole = _got(room, copied, path)
+    manifest = in_parts.read(whole)
+    if manifest is None:
+        yield whole
+        return
+    for index, (number, _) in enumerate(manifest.parts):
+        part = _got(room, copied, path + in_parts.end_of(number).encode())
+        if not manifest.is_part(index, part):
+            raise Stop(f"{names.shown(path)}: part {number} was changed")
+        yield part

@@ -2,9 +2,9 @@
 may send. PATH is made if it is missing, with the folders above it. No link is followed. A document
 that is there is never replaced without --replace, so the same command goes on where one was cut
 off. What isn't sent is printed, with the room's reply: a link, a device, a file that can't be read
-or has more than 1048576 bytes, and what the room refuses. How much of that there is, and that
-dates, owners and rights stay behind, it says before it begins. On the room's own machine it ends
-where the room is full, unless --force lets it go on beyond LIMIT of the settings."""
+or has more bytes than a document may have, and what the room refuses. How much of that there is,
+and that dates, owners and rights stay behind, it says before it begins. On the room's own machine
+it ends where the room is full, unless --force lets it go on beyond LIMIT of the settings."""
 import argparse
 import os
 
@@ -14,7 +14,8 @@ from ..room import names, settings
 from ..backup import dates
 from ..transfer import importing
 from ..cli.report import Refused, say
-from ..room.http_client import argument, caller_arguments, caller_of, client, is_here, raise_limits
+from ..room.http_client import (argument, caller_arguments, caller_of, client, is_here, most_of,
+                                raise_limits)
 
 
 def arguments(parser: words.Parser) -> None:
@@ -39,11 +40,15 @@ def run(given: argparse.Namespace) -> int:
                       f"one, unlike '{given.path}'")
     tally = importing.Tally()
     tally.look(at)
+    asked = None
+    if not given.dry_run:
+        asked = client(given.room, caller_of(given), "the same command goes on where this one "
+                       "stopped", True)
+    if tally.large:
+        tally.judge(asked.largest() if asked else most_of(given.room))
     say(tally.text())
-    if given.dry_run:
+    if asked is None:
         return 1 if tally.out else 0
-    asked = client(given.room, caller_of(given), "the same command goes on where this one stopped",
-                   True)
     space = None if given.force or not is_here(given.room) else importing.Space(given.room)
     task = importing.Import(asked, given.replace, space)
     task.total = tally.total

@@ -13,7 +13,8 @@ from ..cli.report import Refused
 
 # Who reads what only when it starts.
 _STARTED = {"FILE": "rooms", "PROGRAM": "rooms", "DRIVE": "rooms-door", "DATES": "rooms-door",
-            "DATES_NAMES": "rooms-door", "SEARCH": "rooms-door", "LIMIT": "rooms-full"}
+            "DATES_NAMES": "rooms-door", "LARGEST": "rooms-door", "SEARCH": "rooms-door",
+            "LIMIT": "rooms-full"}
 
 
 def arguments(parser: words.Parser) -> None:

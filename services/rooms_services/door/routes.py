@@ -2,6 +2,8 @@
 from collections.abc import Callable
 from dataclasses import dataclass
 
+from rooms_admin.room.in_parts import LARGEST
+
 from ..room.answers import Answer, Stop
 from .changes.keeper import Keeper
 from .changes.latest import latest
@@ -11,11 +13,12 @@ from .folders.below import below
 from .folders.closed import closed
 from .folders.find import find
 from .folders.goes import goes
-from .folders.matched import condition_of, read, replace, tag_alone
+from .folders.matched import Wanted, condition_of, read, tag_alone
 from .folders.pages import page
 from .folders.would import Would, would
+from .large import replacing, together
 from .search.search import Texts, search
-from ..room.paths import Names, chosen_in, names_in
+from ..room.paths import Names, chosen_in, names_in, names_of_move
 from ..room.room import Room
 
 PREFIX = "/door/"
@@ -24,7 +27,7 @@ LONG_ROUTES = {"below": "walk", "closed": "walk", "find": "walk", "folder": "wal
                "latest": "walk", "pages": "picture", "search": "search", "would": "walk",
                "zip": "zip"}
 # Behind what a query may stand.
-_ASKING = ("below", "find", "goes", "pages", "search", "zip")
+_ASKING = ("below", "find", "goes", "pages", "places", "search", "zip")
 # Behind what no path stands.
 _PATHLESS = ("would",)
 
@@ -47,6 +50,11 @@ class Asked:
     would: Would
     # The socket of who makes pictures of pages, or nothing.
     pictures: str
+    # In the place of the body, where that is more than a document of the room may have.
+    upload: replacing.Upload | None
+    # How many bytes a document may have; and ends the request if the room is full.
+    largest: int
+    refuse_full: Callable[[], None]
 
     @property
     def dates(self) -> Keeper | None:
@@ -55,6 +63,10 @@ class Asked:
 
     def conditions(self) -> tuple[str, str]:
         return self.field("If-Match"), self.field("If-None-Match")
+
+    def wanted(self) -> Wanted:
+        return Wanted(*self.conditions(), self.field("Range"), self.field("If-Range"),
+                      self.method == "HEAD")
 
 
 Route = Callable[[Asked], Answer]
@@ -99,17 +111,43 @@ def _zip(asked: Asked) -> Answer:
 
 
 def _read(asked: Asked) -> Answer:
-    return read(asked.room, asked.would, asked.user, asked.route, asked.names, *asked.conditions())
+    return read(asked.room, asked.would, asked.user, asked.route, asked.names, asked.wanted())
 
 
 def _tag(asked: Asked) -> Answer:
     return tag_alone(asked.room, asked.would, asked.user, asked.route, asked.names,
-                     *asked.conditions())
+                     asked.wanted())
 
 
 def _replace(asked: Asked) -> Answer:
-    return replace(asked.room, asked.would, asked.user, asked.route, asked.names, asked.body,
-                   condition_of(*asked.conditions()))
+    condition = condition_of(*asked.conditions())
+    if asked.route == "doc":
+        return replacing.replace(asked.room, asked.would, asked.user, asked.names,
+                                 asked.upload or asked.body, condition)
+    return together.listed(asked.room, asked.would, asked.user, asked.route, asked.names,
+                           asked.body, condition)
+
+
+def _prepare(asked: Asked) -> Answer:
+    query = asked.query
+    if not (query.isascii() and query.isdigit()) or len(query) > 12:
+        raise Stop(400, "bad-query", "how many bytes it will have")
+    if not LARGEST < int(query) <= asked.largest:
+        raise Stop(413, "too-large", f"a document has at most {asked.largest} bytes")
+    return replacing.prepare(asked.room, asked.would, asked.user, asked.names, int(query),
+                             condition_of(*asked.conditions()), asked.refuse_full)
+
+
+def _remove(asked: Asked) -> Answer:
+    return together.removed(asked.room, asked.user, asked.names)
+
+
+def _move(asked: Asked) -> Answer:
+    return together.moved(asked.room, asked.user, asked.names, names_of_move(asked.body))
+
+
+def _give(asked: Asked) -> Answer:
+    return together.given(asked.room, asked.user, asked.names, asked.body)
 
 
 def _would(asked: Asked) -> Answer:
@@ -122,7 +160,9 @@ ROUTES: dict[str, dict[str, Route]] = {
     "folder": {"GET": _folder}, "goes": {"GET": _goes}, "latest": {"GET": _latest},
     "pages": {"GET": _pages}, "search": {"GET": _search}, "would": {"POST": _would},
     "zip": {"GET": _zip},
-    "doc": _MATCHED, "dacl": _MATCHED, "sacl": _MATCHED}
+    "doc": _MATCHED, "dacl": _MATCHED, "sacl": _MATCHED,
+    "attr": {"PUT": _give}, "move": {"POST": _move}, "object": {"DELETE": _remove},
+    "places": {"POST": _prepare}}
 
 
 def place_of(target: str) -> tuple[str, str, str]:

@@ -17,16 +17,18 @@ import traceback
 from urllib.parse import urlsplit
 
 from rooms_admin.room import waits
+from rooms_admin.room.in_parts import LARGEST
 
 from .. import listening
 from ..room.answers import TEXT, Answer, Stop, reason
-from ..room.room import LARGEST, USER, Room
+from ..room.room import USER, Room
 from .routes import LONG_ROUTES, PREFIX, Asked, route_of
 from ..room.turns import Users
 from .changes.keeper import Keeper
 from .search.search import Texts
 from .folders.would import Would
 from .webdav.calls import Drive
+from .large.replacing import Upload
 from .webdav.kept import Kept
 from .webdav.methods import LONG_METHODS, answer
 
@@ -41,32 +43,37 @@ _ABOVE = re.compile(r"(/[a-z0-9-]{1,32})?")
 
 class Door:
     """A door may have no drive, keep no dates, and search no texts. `full` is the path of a file
-    that is there while the room takes no more, and `pictures` the socket of who makes pictures of
-    pages."""
+    that is there while the room takes no more, `pictures` the socket of who makes pictures of
+    pages, and `largest` how many bytes a document may have."""
 
     def __init__(self, room: Room, would: Would, drive: Drive | None = None, full: str = "",
                  keeper: Keeper | None = None, texts: Texts | None = None,
-                 pictures: str = "") -> None:
+                 pictures: str = "", largest: int = LARGEST) -> None:
         self.texts = texts
         self.room = room
         self.would = would
         self.drive = drive
         self.keeper = keeper
         self.pictures = pictures
+        self.largest = max(largest, LARGEST)
         self.users = Users()
         self._full = full
 
     def is_drive(self, target: str) -> bool:
         return self.drive is not None and target.startswith("/drive") and target[6:7] in ("", "/")
 
+    def is_document(self, method: str, target: str) -> bool:
+        """Whether the body is a document."""
+        return method == "PUT" and (target.startswith(f"{PREFIX}doc/") or self.is_drive(target))
+
     def adds(self, method: str, target: str) -> bool:
         """Whether a full room doesn't take it, as nginx says too (deploy/nginx/site.conf.in)."""
         if self.is_drive(target):
             return method in ("PUT", "MKCOL", "COPY", "LOCK")
-        return method == "PUT" and target.startswith(f"{PREFIX}doc/")
+        return self.is_document(method, target) or target.startswith(f"{PREFIX}places/")
 
-    def refuse_full(self, method: str, target: str) -> None:
-        if self._full and self.adds(method, target) and os.path.lexists(self._full):
+    def refuse_full(self) -> None:
+        if self._full and os.path.lexists(self._full):
             raise Stop(507, "full", "the room is full")
 
 
@@ -75,6 +82,8 @@ class Handler(http.server.BaseHTTPRequestHandler):
     timeout = SECONDS
     door: Door
     server: "Server"
+    # How many bytes of the body nobody has read yet.
+    left = 0
 
     def handle(self) -> None:
         """A connection for each request, as nginx has them, or for one after the other."""
@@ -127,37 +136,56 @@ class Handler(http.server.BaseHTTPRequestHandler):
         text = self._field("Content-Length") or "0"
         if not (text.isascii() and text.isdigit()):
             raise Stop(400, "bad-length", "no length")
-        if len(text) > 9 or int(text) > LARGEST:
-            raise Stop(413, "too-large", f"a document has at most {LARGEST} bytes")
+        most = self.door.largest if self.door.is_document(self.command, self.path) else LARGEST
+        if len(text) > 12 or int(text) > most:
+            self.left = int(text) if len(text) <= 12 else 0
+            raise Stop(413, "too-large", f"a document has at most {most} bytes")
         return int(text)
 
-    def _body(self, length: int) -> bytes:
+    def _taken(self, length: int) -> bytes:
+        """The next bytes of the body."""
         body = self.rfile.read(length)
+        self.left -= len(body)
         if len(body) != length:
+            self.left = 0
             self.close_connection = True
             raise Stop(400, "bad-length", "the body was cut off")
         return body
 
+    def _drop_rest(self) -> None:
+        """nginx sends all of it before it reads an answer."""
+        while self.left > 0 and (part := self.rfile.read(min(self.left, 65_536))):
+            self.left -= len(part)
+            self.close_connection = True
+
     def _answer(self) -> None:
         """A body is read once it is the user's turn, so that no user fills the memory by it."""
-        length = 0
+        self.left = 0
         try:
-            length = self._length()
+            self.left = length = self._length()
             user = self._user()
             self._refuse_others()
-            with self.door.users.turn(user, self._kind()):
+            with self.door.users.turn(user, self._kind(length)):
                 # nginx looked when it came, which may be minutes ago.
-                self.door.refuse_full(self.command, self.path)
-                self._send(self._done(user, length))
+                if self.door.adds(self.command, self.path):
+                    self.door.refuse_full()
+                answer = self._done(user, length)
+                self._drop_rest()
+                if answer.length is None or self.command == "HEAD":
+                    self._send(answer)
+                    return
+            # It goes at its caller's pace.
+            with self.door.users.turn(user, "large"):
+                self._send(answer)
         except Stop as stop:
-            # nginx sends all of it before it reads an answer.
-            while length > 0 and (part := self.rfile.read(min(length, 65_536))):
-                length -= len(part)
+            self._drop_rest()
             self.close_connection = True
             self._send(stop.answer(self.door.is_drive(self.path)))
 
-    def _kind(self) -> str:
+    def _kind(self, length: int) -> str:
         """Of what may take long."""
+        if length > LARGEST:
+            return "large"
         if self.door.is_drive(self.path):
             return "walk" if self.command in LONG_METHODS else ""
         return LONG_ROUTES.get(self.path.removeprefix(PREFIX).partition("/")[0], "")
@@ -165,17 +193,20 @@ class Handler(http.server.BaseHTTPRequestHandler):
     def _done(self, user: str, length: int) -> Answer:
         drive = self.door.drive if self.door.is_drive(self.path) else None
         try:
-            body = self._body(length)
+            upload = Upload(length, self._taken, self.door.refuse_full) \
+                if length > LARGEST else None
+            body = b"" if upload else self._taken(length)
             if drive:
                 above = self._field("Room-Above")
                 if not _ABOVE.fullmatch(above):
                     raise Stop(400, "bad-field", "Room-Above is no place of a room")
                 return answer(drive, self.door.room, user, self.command, self.path, above,
-                              self._field, body)
+                              self._field, body, upload)
             route, word, names, query = route_of(self.command, self.path)
             return route(Asked(self.door.room, user, self.command, word, names, query,
                                self._field, body, self.door.keeper, self.door.texts,
-                               self.door.would, self.door.pictures))
+                               self.door.would, self.door.pictures, upload,
+                               self.door.largest, self.door.refuse_full))
         except Stop as stop:
             return stop.answer(drive is not None)
         except OSError:
@@ -198,7 +229,9 @@ class Handler(http.server.BaseHTTPRequestHandler):
             self.send_header(name, value)
         if answer.kind:
             self.send_header("Content-Type", answer.kind)
-        if answer.parts is not None:
+        if answer.length is not None:
+            self.send_header("Content-Length", str(answer.length))
+        elif answer.parts is not None:
             self.send_header("Transfer-Encoding", "chunked")
         elif has_body:
             self.send_header("Content-Length", str(len(answer.body)))
@@ -206,18 +239,22 @@ class Handler(http.server.BaseHTTPRequestHandler):
             self.send_header("Connection", "close")
         self.end_headers()
         if answer.parts is not None:
-            self._send_parts(answer)
+            if self.command != "HEAD":
+                self._send_parts(answer)
         elif has_body and self.command != "HEAD":
             self.wfile.write(answer.body)
 
     def _send_parts(self, answer: Answer) -> None:
-        """Without the last chunk, which nginx waits for, where something failed: so it breaks the
-        download off."""
+        """Without the last chunk, or the last bytes, which nginx waits for, where something failed:
+        so it breaks the download off."""
         try:
             for part in answer.parts or ():
-                if part:
+                if answer.length is not None:
+                    self.wfile.write(part)
+                elif part:
                     self.wfile.write(b"%x\r\n%b\r\n" % (len(part), part))
-            self.wfile.write(b"0\r\n\r\n")
+            if answer.length is None:
+                self.wfile.write(b"0\r\n\r\n")
         except Stop as stop:
             self.close_connection = True
             print(f"a download was broken off: {stop.why}", file=sys.stderr, flush=True)
@@ -294,12 +331,13 @@ def opened(place: str, door: Door) -> Server:
 
 
 def serve(room: str, listen: str, would: str, locks: str, full: str,
-          keeper: Keeper | None, texts: Texts | None, pictures: str = "") -> None:
+          keeper: Keeper | None, texts: Texts | None, pictures: str = "",
+          largest: int = LARGEST) -> None:
     """Without a file of locks there is no drive."""
     drive = Drive(Kept(locks), full) if locks else None
     asked = Room(room, note=keeper.note if keeper else None)
-    with opened(listen, Door(asked, Would(would), drive, full, keeper, texts,
-                             pictures)) as server:
+    with opened(listen, Door(asked, Would(would), drive, full, keeper, texts, pictures,
+                             largest)) as server:
         if keeper:
             threading.Thread(target=keeper.run, daemon=True).start()
         # (Its thread alone accepts, and waits for another one that ends it.)

@@ -11,7 +11,9 @@ own there would be asked for."""
 from collections.abc import Callable, Iterator
 from dataclasses import dataclass
 
+from ..room import large
 from ..room.answers import JSON, TEXT, Answer, Stop, written
+from ..room.parts import Parts
 from ..room.paths import Names, is_below
 from ..room.room import Reply, Room, about, listed
 from .gate import Opened
@@ -52,9 +54,21 @@ class Look:
         reply = self._ask(self.then, self.word, self.names)
         if reply.status != 200:
             return reply.answer()
-        if self.word != "folder":
+        if self.word == "doc":
+            return self._document(reply)
+        if self.word == "dacl":
             return Answer(200, reply.body, KINDS[self.word])
         return self._listing(reply, now if is_here else None, left)
+
+    def _document(self, reply: Reply) -> Answer:
+        """Of one in parts, which have its list, that night's copy says whether they may be read."""
+        then = self.then
+        assert then
+        found = large.of(lambda ask: then.ask(self.user, ask), self.names, reply.body)
+        if not found:
+            return Answer(200, reply.body, KINDS["doc"])
+        return Answer(200, kind=KINDS["doc"], length=found.size,
+                      parts=Parts(then, self.user, self.names, found))
 
     def _ask(self, room: Room, word: str, names: Names, query: str = "") -> Reply:
         return room.ask(self.user, about("GET", word, names, query))
@@ -111,11 +125,13 @@ class Look:
     def _listing(self, then: Reply, now: Reply | None, left: Names | None) -> Answer:
         """Names of what isn't there any more are shown to whoever sees that itself. There may be
         100,000: so a name is bytes here, and no listing is read as a whole."""
+        hidden = set(large.hidden_in(then.body, LISTED))
         here = set(_children(now)) if now else set()
-        gone = [one for one in _children(then) if one not in here]
-        if not gone or self._sees_all_gone(left, now is not None):
+        gone = [one for one in _children(then) if one not in here and one not in hidden]
+        if gone and not self._sees_all_gone(left, now is not None):
+            hidden |= set(gone) - self._owned(gone)
+        elif not hidden:
             return Answer(200, then.body, JSON)
-        hidden = set(gone) - self._owned(gone)
         del here, gone
         rows = bytearray(b"[")
         for one in _children(then):

@@ -93,7 +93,7 @@ class Whole:
         for one in self.documents:
             got = self._ask("doc", one.names)
             if got is not None:
-                yield from out.entry(one.place, [got.body])
+                yield from out.entry(one.place, [got.body] if got.parts is None else got.parts)
                 places.append(one.place)
             if time.monotonic() > until:
                 raise ended()

@@ -25,8 +25,10 @@ class Answer:
     body: bytes = b""
     kind: str = ""
     fields: dict[str, str] = field(default_factory=dict)
-    # In the place of a body: its parts, of which nobody knows how many there are.
-    parts: Iterator[bytes] | None = None
+    # In the place of a body: its parts, of which nobody knows how many there are; and how many
+    # bytes they have together, if that is known.
+    parts: Iterable[bytes] | None = None
+    length: int | None = None
 
 
 # How many bytes are sent at once of what is written as it comes, and how long it is sent: whoever

@@ -2,6 +2,7 @@
 
 A target is decoded once, name by name, and what the room gets is encoded anew from the names. So
 the door and the room never understand a path differently, whatever escapes the client wrote."""
+import json
 import re
 from functools import lru_cache
 from urllib.parse import quote, unquote_to_bytes
@@ -37,6 +38,25 @@ def names_in(rest: str) -> Names:
                 or any(byte < 0x20 or byte == 0x7F for byte in part):
             raise Stop(400, "bad-target P1")
     return names
+
+
+def names_of_path(path: object) -> Names:
+    """Of a path as the room takes it in a body, which isn't escaped; else ValueError."""
+    if not isinstance(path, str):
+        raise ValueError
+    names = tuple(path.split("/"))
+    if names[0] or len(names) < 2 or len(path.encode()) > LONGEST_PATH or any(
+            name in ("", ".", "..") or len(name.encode()) > LONGEST_NAME for name in names[1:]):
+        raise ValueError
+    return names[1:]
+
+
+def names_of_move(body: bytes) -> Names:
+    """Where to."""
+    try:
+        return names_of_path(json.loads(body)["to"])
+    except (ValueError, KeyError, TypeError, RecursionError):
+        raise Stop(400, "bad-body") from None
 
 
 def chosen_in(query: str) -> frozenset[str]:

@@ -9,7 +9,7 @@ import socket
 import threading
 import time
 from collections.abc import Callable, Iterable, Iterator
-from contextlib import contextmanager
+from contextlib import closing, contextmanager
 from functools import lru_cache
 from typing import NamedTuple
 
@@ -19,7 +19,6 @@ from .answers import JSON, Answer, Stop
 from .paths import Names, escaped
 from .turns import PATIENCE, InTurn
 
-LARGEST = 1_048_576
 # How many questions one connection has at most. All of a row are sent before an answer is read, so
 # they have to fit into a socket's buffer: else the room could wait with an answer for a door that
 # waits with a question.
@@ -203,6 +202,10 @@ class Talk:
         # How many bytes the room has answered.
         self.taken = 0
 
+    def close(self) -> None:
+        """Else the connection is open, and the room answers nobody, as long as this is known."""
+        self._lines.close()
+
     def ask(self, ask: Ask) -> Reply:
         if ask.method == "GET" or self._note is None:
             return self._asked(ask)
@@ -358,7 +361,8 @@ class Room:
                 at = self.connected()
                 with at:
                     at.settimeout(self.seconds)
-                    yield Talk(at, user, self.most, self._note)
+                    with closing(Talk(at, user, self.most, self._note)) as talk:
+                        yield talk
         finally:
             self.give()
 

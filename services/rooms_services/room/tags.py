@@ -1,7 +1,8 @@
 """Entity tags: of documents and lists, and as the fields If-Match and If-None-Match name them (RFC
 9110 sections 8.8.3 and 13)."""
-import hashlib
 import re
+
+from rooms_admin.room import in_parts
 
 from .answers import Stop
 
@@ -9,8 +10,8 @@ _NEXT = re.compile(r'[ \t,]*(?:(W/)?("[\x21\x23-\x7e\x80-\xff]*")[ \t]*(?=,|$))?
 
 
 def tag_of(body: bytes) -> str:
-    """By whatever address it is read. Some clients have no room for more."""
-    return f'"{hashlib.sha256(body).hexdigest()[:32]}"'
+    """By whatever address it is read."""
+    return in_parts.tag_in(in_parts.digest_of(body))
 
 
 def tags_in(text: str) -> list[tuple[bool, str]] | None:

@@ -371,6 +371,9 @@ class Keeper:
     def folders(self, above: int) -> list[Inside]:
         return self._ask(lambda store: store.folders(above))
 
+    def size_of_parts(self, folder: int, begin: str) -> int | None:
+        return self._ask(lambda store: store.size_of_parts(folder, begin))
+
     def newest(self, folder: int, after: tuple[int, int] | None, most: int) -> list[Newest]:
         return self._ask(lambda store: store.newest(folder, after, most))
 

@@ -8,6 +8,8 @@ import heapq
 from collections.abc import Iterator
 from itertools import islice
 
+from rooms_admin.room import in_parts
+
 from ...room.answers import Answer, Stop, told
 from ...room.paths import Names
 from ...room.room import Reply, Room, too_many
@@ -67,10 +69,16 @@ class Latest:
             at, one, number = heapq.heappop(heap)
             folder = self.open[number]
             for found in self.keeper.newest(self.numbers[folder], (-at, 1 - one), 1):
-                yield Node(found.name.encode(), False, folder), found
+                if not in_parts.whole_of(found.name):
+                    yield Node(found.name.encode(), False, folder), self._as_one(folder, found)
                 self._push(heap, number, (found.known.at or 0, found.id))
             if self.walk.is_late():
                 raise too_late()
+
+    def _as_one(self, folder: Node, found: Newest) -> Newest:
+        """It is as large as its parts are."""
+        size = self.keeper.size_of_parts(self.numbers[folder], found.name + in_parts.MARK)
+        return found._replace(known=found.known._replace(size=size)) if size else found
 
     def _push(self, heap: list[tuple[int, int, int]], number: int,
               after: tuple[int, int] | None) -> None:

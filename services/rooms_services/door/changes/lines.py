@@ -15,7 +15,7 @@ from enum import Enum
 from typing import NamedTuple
 
 from ...room.answers import Stop
-from ...room.paths import LONGEST_NAME, LONGEST_PATH, Names, names_in
+from ...room.paths import Names, names_in, names_of_path
 from ...room.room import USER, Ask
 
 BEGIN = b'{"v":1,'
@@ -62,19 +62,10 @@ def _text(value: object) -> str:
     return value
 
 
-def _names_of_path(path: object) -> Names:
-    """Of a path as the room takes it in a body, which isn't escaped."""
-    names = tuple(_text(path).split("/"))
-    if names[0] or len(names) < 2 or len(_text(path).encode()) > LONGEST_PATH or any(
-            name in ("", ".", "..") or len(name.encode()) > LONGEST_NAME for name in names[1:]):
-        raise ValueError
-    return names[1:]
-
-
 def _moved_to(text: str) -> Names | None:
     """Nothing of a body that was too long for nginx's memory."""
     try:
-        return _names_of_path(json.loads(text.encode("latin-1").decode())["to"])
+        return names_of_path(json.loads(text.encode("latin-1").decode())["to"])
     except (ValueError, KeyError, TypeError, RecursionError):
         return None
 

@@ -7,6 +7,8 @@ those of the room's own listing, and the rights the room's own answers: of what 
 that denies the caller x, these are denied."""
 from collections.abc import Iterator
 
+from rooms_admin.room import in_parts
+
 from ...room.answers import Answer, told_as_it_comes
 from ...room.paths import Names
 from ...room.room import Reply, Room
@@ -83,8 +85,16 @@ class Listed:
             row: dict[str, object] = {"kind": child.kind, "name": name}
             known = self.known.get(name)
             if known and child in self.may_know and known.is_folder == child.is_folder:
-                row.update(shown(known))
+                row.update(shown(self._as_one(known, name) if child.has_parts else known))
             yield row
+
+    def _as_one(self, known: Known, name: str) -> Known:
+        """It is as large as its parts are, of which those that aren't in use are empty."""
+        sizes = [self.known[part].size for part, whole in in_parts.hidden(self.known).items()
+                 if whole == name]
+        if None in sizes:
+            return known._replace(size=None)
+        return known._replace(size=sum(size or 0 for size in sizes) or known.size)
 
 
 def listed(room: Room, user: str, names: Names, keeper: Keeper | None, searches: bool) -> Answer:

@@ -380,6 +380,14 @@ class Store:
                     "(at, node.id) < (?, ?) ORDER BY at DESC, node.id DESC LIMIT ?",
                     (folder, at, last, most))]
 
+    def size_of_parts(self, folder: int, begin: str) -> int | None:
+        """Of the documents in a folder whose names begin so and go on by digits, if all are
+        known."""
+        count, known, size = self._db.execute(
+            "SELECT count(*), count(size), sum(size) FROM node WHERE up = ? AND folder = 0 AND "
+            "name > ? AND name < ?", (folder, begin, f"{begin}:")).fetchone()
+        return int(size) if count and count == known else None
+
     def count(self) -> int:
         return int(self._db.execute("SELECT count(*) FROM node").fetchone()[0])
 

@@ -9,7 +9,9 @@ from urllib.parse import quote
 
 from rooms_admin.cli import signs
 
-from ...room.answers import Answer, in_pieces
+from ...room import large
+from ...room.answers import Answer, Stop, in_pieces
+from ...room.parts import Parts
 from ...room.paths import Names
 from ...room.room import Ask, Reply, Room, ended
 from .walk import Node, Step, Walk, refuse_long, top_of
@@ -144,20 +146,33 @@ class Archive:
             node = node.above
         return "".join(reversed(way))
 
-    def _read(self, until: float) -> Iterator[tuple[Node, bytes]]:
+    def _read(self, until: float) -> Iterator[tuple[Node, Iterable[bytes]]]:
         for place in range(0, len(self.documents), ROW_OF_DOCUMENTS):
             row = self.documents[place:place + ROW_OF_DOCUMENTS]
             replies = self.room.row(self.walk.user, [
                 Ask("GET", "doc", self.walk.target(one)) for one in row])
             for one, reply in zip(row, replies, strict=True):
                 if reply.status == 200:
-                    yield one, reply.body
+                    if (parts := self._parts_of(one, reply.body)) is not None:
+                        yield one, parts
                 elif self.walk.note(reply).status in (403, 404, 409):
                     self.left_out.append(one)
                 else:
                     raise ended()
             if time.monotonic() > until:
                 raise ended()
+
+    def _parts_of(self, node: Node, body: bytes) -> Iterable[bytes] | None:
+        """None where some are missing."""
+        names = tuple(node.path.split("/")[1:])
+        try:
+            found = large.of(lambda ask: self.room.ask(self.walk.user, ask), names, body)
+        except Stop as stop:
+            if stop.why != "not-whole":
+                raise
+            self.left_out.append(node)
+            return None
+        return Parts(self.room, self.walk.user, names, found) if found else [body]
 
     def _parts(self) -> Iterator[bytes]:
         out = Writer()
@@ -167,7 +182,7 @@ class Archive:
         sent: list[Node] = []
         for node, data in self._read(time.monotonic() + SECONDS):
             sent.append(node)
-            yield from out.entry(next(self._places([node])), [data])
+            yield from out.entry(next(self._places([node])), data)
         names = [self._places(self.folders), self._places(sent)]
         if self.left_out:
             name = self._place(self.folders[0]) + self.list_of_rest

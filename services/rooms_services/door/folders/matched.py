@@ -1,17 +1,25 @@
 """A document or a list that is replaced only if it is still the one that was seen. The look and the
 change are sent over one connection, and the room answers nobody else in between: so whatever comes
 from elsewhere comes before the look or after the change."""
+from collections.abc import Callable, Iterator
+from contextlib import contextmanager
 from dataclasses import dataclass
 
+from rooms_admin.room import in_parts
+
+from ...room import large
 from ...room.answers import Answer, Stop
 from .holders import Listed, holders
 from .would import Would
+from ...room.parts import Parts
 from ...room.paths import Names, shown
+from ...room.ranges import range_of, said
 from ...room.room import Reply, Room, Talk, about
 from ...room.tags import of_reading, tag_of, tags_in
 
 # Nothing of it is shown as a page of this site, nor kept where somebody else could find it.
 SAFE = {"Content-Disposition": "attachment", "Cache-Control": "private, no-store"}
+BYTES = "application/octet-stream"
 # Whoever has one of these rights could have changed it.
 CHANGES = {"doc": "wa", "dacl": "C", "sacl": "C"}
 # What it takes to read it.
@@ -25,7 +33,7 @@ class Condition:
     tags: frozenset[str]
 
 
-class _Changed(Exception):
+class Changed(Exception):
     """It isn't what was seen. Who could have changed it is asked once the room is free again."""
 
     def __init__(self, why: str, at: str, tag: str | None, listed: Listed | None) -> None:
@@ -54,27 +62,59 @@ def condition_of(match: str, none: str) -> Condition:
     return Condition(False, frozenset(tag for weak, tag in named if not weak) or frozenset([""]))
 
 
-def read(room: Room, would: Would, user: str, route: str, names: Names, match: str, none: str
-         ) -> Answer:
+@contextmanager
+def told(would: Would, route: str) -> Iterator[None]:
+    """Who could have changed it, behind what is asked here of the room."""
     try:
-        with room.talk(user) as talk:
-            reply = talk.ask(about("GET", route, names))
-            if reply.status != 200:
-                return reply.answer()
-            tag = tag_of(reply.body)
-            status = of_reading(match, none, tag)
-            if status == 412:
-                raise _changed(talk, names, "changed", reply)
-    except _Changed as changed:
+        yield
+    except Changed as changed:
         raise changed.stop(would, route) from None
+
+
+@dataclass(frozen=True)
+class Wanted:
+    """What a request to read says beside its path."""
+    match: str = ""
+    none: str = ""
+    range: str = ""
+    if_range: str = ""
+    is_head: bool = False
+
+
+def read(room: Room, would: Would, user: str, route: str, names: Names, wanted: Wanted) -> Answer:
+    with told(would, route), room.talk(user) as talk:
+        reply = talk.ask(about("GET", route, names))
+        if reply.status != 200:
+            return reply.answer()
+        found = large.of(talk.ask, names, reply.body) if route == "doc" else None
+        tag = found.tag if found else tag_of(reply.body)
+        status = of_reading(wanted.match, wanted.none, tag)
+        if status == 412:
+            raise _changed(talk, names, "changed", tag)
     fields = {"ETag": tag, **SAFE}
     if status == 304:
         return Answer(304, fields=fields)
-    kind = "application/octet-stream" if route == "doc" else "text/plain; charset=utf-8"
-    return Answer(200, reply.body, kind, fields)
+    if route != "doc":
+        return Answer(200, reply.body, "text/plain; charset=utf-8", fields)
+    asked = wanted.range if (wanted.if_range or tag) == tag else ""
+    fields["Accept-Ranges"] = "bytes"
+    if not found:
+        return part_of(reply.body, asked, fields)
+    if wanted.is_head:
+        return Answer(200, kind=BYTES, fields=fields, parts=iter(()), length=found.size)
+    return Parts(room, user, names, found).answer(asked, fields)
 
 
-def tag_alone(room: Room, would: Would, user: str, route: str, names: Names, match: str, none: str
+def part_of(body: bytes, asked: str, fields: dict[str, str]) -> Answer:
+    """The range that the field Range asks for, or all."""
+    part = range_of(asked, len(body)) if asked else None
+    if part is None:
+        return Answer(200, body, BYTES, fields)
+    return Answer(206, body[part[0]:part[1]], BYTES,
+                  {**fields, "Content-Range": said(part, len(body))})
+
+
+def tag_alone(room: Room, would: Would, user: str, route: str, names: Names, wanted: Wanted
               ) -> Answer:
     """The same without the bytes, for whoever is about to replace it: it is empty where they may
     not read it, and no record says that they tried."""
@@ -83,34 +123,28 @@ def tag_alone(room: Room, would: Would, user: str, route: str, names: Names, mat
         return may.answer()
     if not all(may.rulings().values()):
         return Answer(204)
-    return read(room, would, user, route, names, match, none)
+    return read(room, would, user, route, names, wanted)
+
+
+Put = Callable[[large.Asks, str, Names, bytes], Reply]
 
 
 def replace(room: Room, would: Would, user: str, route: str, names: Names, body: bytes,
-            condition: Condition) -> Answer:
-    try:
-        with room.talk(user) as talk:
-            return _replaced(talk, route, names, body, condition)
-    except _Changed as changed:
-        raise changed.stop(would, route) from None
-
-
-def _replaced(talk: Talk, route: str, names: Names, body: bytes, condition: Condition) -> Answer:
-    stopped = _look(talk, route, names, condition)
-    if stopped is not None:
-        return stopped
-    reply = talk.ask(about("PUT", route, names, body=body))
-    if reply.status not in (201, 204):
-        return reply.answer()
-    now = tag_of(body)
-    if route != "doc":
+            condition: Condition, put: Put) -> Answer:
+    """A list, which `put` sends."""
+    with told(would, route), room.talk(user) as talk:
+        stopped = against(talk, route, names, condition)
+        if stopped is not None:
+            return stopped
+        reply = put(talk.ask, route, names, body)
+        if reply.status != 204:
+            return reply.answer()
         # It has by now what its folder passes down, too.
         after = talk.ask(about("GET", route, names))
-        now = tag_of(after.body) if after.status == 200 else ""
-    return Answer(reply.status, fields={"ETag": now} if now else {})
+    return Answer(reply.status, fields={"ETag": tag_of(after.body)} if after.status == 200 else {})
 
 
-def _look(talk: Talk, route: str, names: Names, condition: Condition) -> Answer | None:
+def against(talk: Talk, route: str, names: Names, condition: Condition) -> Answer | None:
     """What stands against the change, as far as it is the condition's."""
     if condition.is_new or not condition.tags:
         # Whoever may write there needn't be allowed to read.
@@ -119,21 +153,23 @@ def _look(talk: Talk, route: str, names: Names, condition: Condition) -> Answer 
         if not is_there and (there.status != 404 or there.at != shown(names)):
             return there.answer()
         if is_there == condition.is_new:
-            raise _changed(talk, names, "exists" if is_there else "gone", None)
+            raise _changed(talk, names, "exists" if is_there else "gone")
         return None
     seen = talk.ask(about("GET", route, names))
     if seen.status == 404 and seen.at == shown(names):
-        raise _changed(talk, names, "gone", None)
+        raise _changed(talk, names, "gone")
     if seen.status != 200:
         return seen.answer()
-    if tag_of(seen.body) not in condition.tags:
-        raise _changed(talk, names, "changed", seen)
+    # (one whose parts lack is replaced like any other)
+    found = in_parts.read(seen.body) if route == "doc" else None
+    tag = found.tag if found else tag_of(seen.body)
+    if tag not in condition.tags:
+        raise _changed(talk, names, "changed", tag)
     return None
 
 
-def _changed(talk: Talk, names: Names, why: str, seen: Reply | None) -> _Changed:
-    return _Changed(why, shown(names), tag_of(seen.body) if seen else None,
-                    None if why == "gone" else _listed(talk, names))
+def _changed(talk: Talk, names: Names, why: str, tag: str | None = None) -> Changed:
+    return Changed(why, shown(names), tag, None if why == "gone" else _listed(talk, names))
 
 
 def _listed(talk: Talk, names: Names) -> Listed | None:

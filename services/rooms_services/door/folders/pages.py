@@ -5,7 +5,7 @@ from ... import apart, picture
 from ...room.answers import Answer, Stop
 from ...room.paths import Names
 from ...room.room import Room
-from .matched import SAFE, read
+from .matched import SAFE, Wanted, read
 from .would import Would
 
 # How long it may take until a process is there, and how long that may take. Its unit ends it
@@ -42,9 +42,12 @@ def page(room: Room, would: Would, user: str, names: Names, query: str, match: s
     number = _number(query)
     if not place:
         return Answer(204)
-    seen = read(room, would, user, "doc", names, match, "")
+    seen = read(room, would, user, "doc", names, Wanted(match))
     if seen.status != 200:
         return seen
+    if seen.length is not None:
+        # One in parts is more than a process gets.
+        return Answer(204)
     if _BEGINS not in seen.body[:_WITHIN]:
         raise Stop(415, "no-pdf", "it is no PDF")
     try:

@@ -8,6 +8,7 @@ from typing import NamedTuple
 
 from ...room.answers import Stop
 from ...room.paths import Names, escaped, escaped_name, shown
+from ...room.large import hidden_in
 from ...room.room import Ask, Filling, Reply, Room, Row, listed, too_many
 
 # No request looks at more, or at longer names together, or for longer.
@@ -29,6 +30,8 @@ class Node:
     above: "Node | None" = None
     # Whether the caller passes through it: else nothing in it is asked about.
     is_open: bool = False
+    # Whether parts of it lie beside it, and so it may be a document of more than 1 MiB.
+    has_parts: bool = False
     # As far as they may be read.
     list: bytes | None = None
     owner: str | None = None
@@ -137,13 +140,17 @@ class Walk:
             raise too_late()
 
     def children(self, node: Node, reply: Reply) -> Iterator[Node]:
-        """Of a listing. What is gone by now, or can't be listed, has none."""
+        """Of a listing. What is gone by now, or can't be listed, has none. Parts of a document are
+        no documents of their own."""
         if reply.status != 200:
             return
+        parts = hidden_in(reply.body, MOST + 1)
+        wholes = set(parts.values())
         for name, is_folder in listed(reply.body, MOST + 1):
             self.seen += 1
             self.named += len(name)
-            yield Node(name, is_folder, node)
+            if is_folder or name not in parts:
+                yield Node(name, is_folder, node, has_parts=name in wholes)
             if self.is_too_much():
                 return
 

@@ -12,6 +12,8 @@ import time
 from collections.abc import Iterator
 from dataclasses import dataclass, field
 
+from rooms_admin.room import in_parts
+
 from ...room.answers import Answer, Stop, told
 from ...room.paths import Names
 from ...room.room import Ask, Reply, Room
@@ -66,6 +68,8 @@ class Search:
         self.can_document = Step("can", "r", self._document)
         self.list = Step("folder", "", self._children)
         self.unread = self.without = 0
+        # Those in parts, whose texts nobody reads.
+        self.in_parts = 0
         # In milliseconds, before the room was asked.
         self.began = int(time.time() * 1000)
 
@@ -84,7 +88,10 @@ class Search:
 
     def _document(self, node: Node, reply: Reply) -> None:
         if reply.rulings().get("r"):
-            self.readable.append(node)
+            if node.has_parts:
+                self.in_parts += 1
+            else:
+                self.readable.append(node)
 
     # What is in it
 
@@ -109,7 +116,8 @@ class Search:
         is_all = is_all and is_whole and not self.unread
         refuse_long(hit.node for hit in shown)
         return told({"all": is_all, "at": top.path, "found": [hit.told() for hit in shown],
-                     "night": found.night, "unread": self.unread, "without": self.without})
+                     "night": found.night, "unread": self.unread,
+                     "without": self.without + self.in_parts})
 
     def _vouched(self) -> int:
         """The moment of the night's copy, if all changes since then are known."""
@@ -209,7 +217,8 @@ class Search:
         self.walk.note(reply)
         if reply.status != 200:
             return reply.answer()
-        read, = self._read([reply.body], SHOWN_SECONDS)
+        body = b"" if in_parts.read(reply.body) else reply.body
+        read, = self._read([body], SHOWN_SECONDS)
         found = [Hit(_node(names), read.places, shown=read.shown).told()] if read.places else []
         return told({"all": not self.unread, "at": _node(names).path, "found": found,
                      "night": None, "unread": self.unread, "without": self.without})

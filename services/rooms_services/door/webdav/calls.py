@@ -3,11 +3,14 @@ import os
 from collections.abc import Callable, Iterable, Iterator
 from contextlib import contextmanager
 
+from rooms_admin.room.in_parts import LARGEST
+
 from . import objects, trees
 from ...room.answers import Stop
 from ...room.paths import Names, shown
-from ...room.room import LARGEST, Ask, Reply, Room, Talk, about, rows
-from ...room.tags import names_tag, tag_of
+from ...room.room import Ask, Reply, Room, Talk, about, rows
+from ...room.tags import names_tag
+from ..large.replacing import Upload
 from .conditions import Condition, Listed, read_if
 from .dates import Dates
 from .kept import Kept
@@ -29,7 +32,9 @@ class Call:
     nobody comes, neither by this door nor by another way."""
 
     def __init__(self, room: Room, user: str, method: str, place: tuple[str, Names, bool],
-                 field: Callable[[str], str], body: bytes) -> None:
+                 field: Callable[[str], str], body: bytes, upload: Upload | None = None) -> None:
+        """`upload` stands for a body that is larger than a document of the room may be."""
+        self.upload = upload
         self.room = room
         self.user = user
         self.method = method
@@ -162,7 +167,7 @@ class Drive:
         if found is None:
             return ""
         if isinstance(found, Document) and found.body is not None:
-            return tag_of(found.body)
+            return objects.tag_for(found.body)
         return "unknown"
 
     def _holds(self, call: Call, listed: Listed, tags: dict[Names, str]) -> bool:

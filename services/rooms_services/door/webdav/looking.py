@@ -1,12 +1,13 @@
 """The methods that look: OPTIONS, GET, HEAD, PROPFIND."""
-import re
 import time
 from collections.abc import Iterator
 from itertools import chain
 
 from . import bodies, objects, properties
+from ...room import large
 from ...room.answers import TEXT, Answer, Stop
-from ..folders.matched import SAFE
+from ..folders.matched import BYTES, SAFE, part_of
+from ...room.parts import Parts
 from ...room.paths import Names
 from ...room.room import about
 from ...room.tags import of_reading, tag_of
@@ -17,7 +18,6 @@ from .paths import href
 from .properties import Wanted
 
 ALLOWED = "OPTIONS, GET, HEAD, PUT, DELETE, MKCOL, COPY, MOVE, PROPFIND, PROPPATCH, LOCK, UNLOCK"
-_RANGE = re.compile(r"bytes=(\d{0,15})-(\d{0,15})", re.ASCII)
 # How long a listing may read documents for their lengths; what it has at most of names, and of
 # bytes, by the length of the folder's own.
 SECONDS = 45.0
@@ -32,40 +32,24 @@ def options(_drive: Drive, _call: Call) -> Answer:
     return Answer(200, fields={"DAV": "1, 2", "MS-Author-Via": "DAV", "Allow": ALLOWED})
 
 
-def _range(text: str, size: int) -> tuple[int, int] | None:
-    """First byte and the one behind the last, of one range; None if it is to be ignored."""
-    match = _RANGE.fullmatch(text)
-    if match is None or match[1] == match[2] == "":
-        return None
-    if match[1] == "":
-        first, end = max(0, size - int(match[2])), size
-    else:
-        first, end = int(match[1]), min(size, int(match[2]) + 1) if match[2] else size
-        if match[2] and int(match[2]) < first:
-            return None
-    if first >= size or first >= end:
-        raise Stop(416, "no-range", "no such range", fields={"Content-Range": f"bytes */{size}"})
-    return first, end
-
-
 def get(drive: Drive, call: Call) -> Answer:
     kept = _read(drive, call)
     if kept is None:
         return Answer(200, b"A folder: open a document in it by its own address.\n", TEXT)
-    tag = tag_of(kept)
+    manifest = large.of(call.ask, call.names, kept)
+    tag = manifest.tag if manifest else tag_of(kept)
     fields = {"ETag": tag, "Last-Modified": drive.dates.of(call.names, tag), **_SAFE}
     status = of_reading(call.field("If-Match"), call.field("If-None-Match"), tag)
     if status == 412:
         raise Stop(412, "changed", "the document isn't the one that the request speaks of")
     if status == 304:
         return Answer(304, fields=fields)
-    wanted = call.field("Range")
-    if wanted and (call.field("If-Range") or tag) == tag:
-        part = _range(wanted, len(kept))
-        if part:
-            fields["Content-Range"] = f"bytes {part[0]}-{part[1] - 1}/{len(kept)}"
-            return Answer(206, kept[part[0]:part[1]], "application/octet-stream", fields)
-    return Answer(200, kept, "application/octet-stream", fields)
+    wanted = call.field("Range") if (call.field("If-Range") or tag) == tag else ""
+    if not manifest:
+        return part_of(kept, wanted, fields)
+    if call.method == "HEAD":
+        return Answer(200, kind=BYTES, fields=fields, parts=iter(()), length=manifest.size)
+    return Parts(call.room, call.user, call.names, manifest).answer(wanted, fields)
 
 
 def _read(drive: Drive, call: Call) -> bytes | None:
@@ -107,7 +91,7 @@ def _below(drive: Drive, call: Call, asked: Wanted, found: Folder, one: int) -> 
     refused before something is sent."""
     if found.reply.status != 200:
         raise stop_of(found.reply)
-    children = objects.children_of(found.reply, MOST)
+    children = objects.shown_of(found.reply, MOST)
     if one * len(children) > LARGEST:
         raise Stop(507, "too-large", "an answer that is too long: ask for less")
     above = [lock for lock in drive.locks.covering(call.names) if lock.deep]

@@ -4,6 +4,7 @@ from collections.abc import Callable
 from ...room.answers import Answer, Stop
 from ...room.room import Room
 from . import locking, looking, moving, saving
+from ..large.replacing import Upload
 from .calls import Call, Drive, asks_for
 from .kept import NotKept
 from .objects import too_large
@@ -22,7 +23,7 @@ METHODS: dict[str, Method] = {
 
 
 def answer(drive: Drive, room: Room, user: str, method: str, target: str, above: str,
-           field: Callable[[str], str], body: bytes) -> Answer:
+           field: Callable[[str], str], body: bytes, upload: Upload | None = None) -> Answer:
     """`above` is what stands before the room's own addresses, such as /invoices; the target is
     without it, and what a client names or is told has it."""
     if method not in METHODS:
@@ -33,7 +34,7 @@ def answer(drive: Drive, room: Room, user: str, method: str, target: str, above:
     if method in BODILESS and body:
         raise Stop(415, "bad-body", f"{method} has no body")
     names, slash = names_of(target, ROUTE)
-    call = Call(room, user, method, (above + ROUTE, names, slash), field, body)
+    call = Call(room, user, method, (above + ROUTE, names, slash), field, body, upload)
     try:
         drive.tasks.end_those_left(lambda one: asks_for(room, one))
         return METHODS[method](drive, call)

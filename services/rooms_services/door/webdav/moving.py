@@ -2,10 +2,16 @@
 takes many requests, between which the room answers others, and is reserved meanwhile."""
 from collections.abc import Callable
 
+from rooms_admin.room import in_parts
+from rooms_admin.room.in_parts import Manifest
+
 from . import objects, properties, tasks, trees
+from ...room import large
 from ...room.answers import Answer, Stop
+from ...room.parts import Parts
 from ...room.paths import Names, is_below, shown
 from ...room.room import Reply, about
+from ..large import replacing, together
 from .calls import Call, Drive
 from .objects import Document, Folder, stop_of
 from .tasks import moving
@@ -19,7 +25,7 @@ def delete(drive: Drive, call: Call) -> Answer:
     with call.alone():
         drive.heed(call)
         drive.guard(call, call.names, member=True, tree=True)
-        reply = call.ask(about("DELETE", "object", call.names))
+        reply = together.remove(call.ask, call.names)
         if reply.status == 404 and (pending := drive.pending(call.user, call.names)):
             drive.locks.end(pending)
             return Answer(204)
@@ -64,14 +70,19 @@ def move(drive: Drive, call: Call) -> Answer:
         drive.guard(call, to, member=True, tree=True)
         drive.settle(call, call.names)
         _keep_own_list(drive, call, to)
-        reply = call.ask(moving(call.names, to))
+        reply = together.move(call.ask, call.names, to)
         if reply.why != "exists":
             return _moved(drive, call, to, reply, Answer(201))
         _refuse_replacing(call)
         source, target = drive.look(call, call.names, True), drive.look(call, to)
-        if isinstance(source, Document) and isinstance(target, Document):
+        manifest = manifest_in(source) if isinstance(target, Document) else None
+        if isinstance(source, Document) and isinstance(target, Document) and not manifest:
             return _move_over(drive, call, to, source)
-        _may_move(call, to, source)
+        if not manifest:
+            _refuse_parts(call, call.names, to)
+            _may_move(call, to, source)
+    if manifest:
+        return _move_parts_over(drive, call, to, manifest)
     return _move_in_place_of(drive, call, to, isinstance(target, Folder))
 
 
@@ -117,13 +128,44 @@ def _move_over(drive: Drive, call: Call, to: Names, source: Document) -> Answer:
     more than before because somebody saved."""
     if source.body is None:
         raise Stop(403, "denied", "it may not be read, so it can't replace anything")
-    if trees.kept(call, [(call.names, False)]):
-        raise Stop(403, "denied", "it may not be removed from where it is")
-    reply = call.ask(about("PUT", "doc", to, body=source.body))
+    _may_leave(call)
+    reply = replacing.put_small(call.ask, to, source.body)
     if reply.status not in (201, 204):
         raise stop_of(reply)
-    reply = call.ask(about("DELETE", "object", call.names))
+    reply = together.remove(call.ask, call.names)
     return _answer(call, _removed(drive, call, call.names, reply), Answer(204))
+
+
+def _may_leave(call: Call) -> None:
+    if trees.kept(call, [(call.names, False)]):
+        raise Stop(403, "denied", "it may not be removed from where it is")
+
+
+def manifest_in(there: There) -> Manifest | None:
+    return in_parts.read(there.body or b"") if isinstance(there, Document) else None
+
+
+def _move_parts_over(drive: Drive, call: Call, to: Names, manifest: Manifest) -> Answer:
+    """The same of one of more than 1 MiB."""
+    with drive.reserved(call, to, call.names):
+        _may_leave(call)
+        _copy_parts(drive, call, to, manifest)
+        with call.alone():
+            reply = together.remove(call.ask, call.names)
+        return _answer(call, _removed(drive, call, call.names, reply), Answer(204))
+
+
+def _copy_parts(drive: Drive, call: Call, to: Names, manifest: Manifest) -> Answer:
+    drive.spending()(manifest.size)
+    return replacing.write(call.room, call.user, to, replacing.Copied(
+        Parts(call.room, call.user, call.names, manifest), drive.refuse_full))
+
+
+def _refuse_parts(call: Call, *places: Names) -> None:
+    """A document of parts takes no folder's place, nor a folder its."""
+    for names in places:
+        if large.count(call.ask, names):
+            raise Stop(409, "wrong-kind", f"remove it first: {shown(names)}")
 
 
 def _may_move(call: Call, to: Names, source: There) -> None:
@@ -151,10 +193,16 @@ def copy(drive: Drive, call: Call) -> Answer:
             _refuse_replacing(call)
         _may_copy(call, to, source, target)
         well = Answer(201 if target is None else 204)
-        if isinstance(source, Document) and not isinstance(target, Folder):
-            _copied(call.ask(about("PUT", "doc", to, body=source.body or b"")))
+        manifest = manifest_in(source) if not isinstance(target, Folder) else None
+        if isinstance(source, Document) and not isinstance(target, Folder) and not manifest:
+            _copied(replacing.put_small(call.ask, to, source.body or b""))
             return well
+        if not manifest:
+            _refuse_parts(call, *[call.names] if isinstance(source, Document) else [], to)
     with drive.reserved(call, to):
+        if manifest:
+            _copy_parts(drive, call, to, manifest)
+            return well
         return _answer(call, _copy_folder(drive, call, to, source, target, depth), well)
 
 

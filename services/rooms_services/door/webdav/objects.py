@@ -5,10 +5,13 @@ from collections.abc import Iterable, Iterator
 from dataclasses import dataclass
 from typing import NamedTuple, Protocol
 
-from ...room import lists
+from rooms_admin.room import in_parts
+from rooms_admin.room.in_parts import LARGEST
+
+from ...room import large, lists
 from ...room.answers import Stop
 from ...room.paths import Names, shown
-from ...room.room import LARGEST, ROW, Ask, Reply, about, listed
+from ...room.room import ROW, Ask, Reply, about, listed
 from ...room.tags import tag_of
 
 # Documents, of up to 1 MiB each, that are in memory at once.
@@ -50,8 +53,16 @@ class Measure:
     sums: str
 
 
+def tag_for(body: bytes) -> str:
+    """Of a document of these bytes, which may be a list of its parts."""
+    found = in_parts.read(body)
+    return found.tag if found else tag_of(body)
+
+
 def measure(body: bytes, with_sums: bool) -> Measure:
     """With the sums by which rclone compares, or without."""
+    if found := in_parts.read(body):
+        return Measure(found.size, found.tag, "")
     sums = f"SHA1:{hashlib.sha1(body).hexdigest()} MD5:{hashlib.md5(body).hexdigest()}" \
         if with_sums else ""
     return Measure(len(body), tag_of(body), sums)
@@ -74,7 +85,15 @@ def too_large() -> Stop:
 
 
 def children_of(reply: Reply, most: int) -> list[Child]:
+    """With parts of documents."""
     return [Child(name.decode(), folder) for name, folder in listed(reply.body, most)]
+
+
+def shown_of(reply: Reply, most: int) -> list[Child]:
+    """Without them."""
+    parts = large.hidden_in(reply.body, most)
+    return [child for child in children_of(reply, most)
+            if child.folder or child.name.encode() not in parts]
 
 
 def look(by: Asks, names: Names, with_bytes: bool, with_children: bool = False

@@ -3,6 +3,7 @@ from . import bodies, properties
 from ...room.answers import Answer, Stop
 from ...room.room import about
 from ...room.tags import tag_of
+from ..large import replacing
 from .bodies import DAV
 from .calls import Call, Drive
 from .objects import Folder, stop_of, too_large
@@ -14,7 +15,11 @@ def put(drive: Drive, call: Call) -> Answer:
     try:
         with call.alone():
             drive.heed(call)
-            answer = _put(drive, call)
+            _guard_put(drive, call)
+            answer = None if call.upload else _put(call)
+        if call.upload:
+            with drive.reserved(call, call.names):
+                answer = replacing.write(call.room, call.user, call.names, call.upload)
     except Stop:
         if lock := drive.pending(call.user, call.names):
             lock.refused = True
@@ -23,10 +28,11 @@ def put(drive: Drive, call: Call) -> Answer:
     if lock := drive.pending(call.user, call.names):
         lock.pending = False
         drive.locks.keep(lock)
+    assert answer
     return answer
 
 
-def _put(drive: Drive, call: Call) -> Answer:
+def _guard_put(drive: Drive, call: Call) -> None:
     if call.field("Room-Too-Large"):
         # nginx hasn't taken the body, and says so here, since a lock may wait for it.
         raise too_large()
@@ -38,7 +44,10 @@ def _put(drive: Drive, call: Call) -> Answer:
     if any(lock.names == call.names[:-1] for lock in drive.locks.covering(call.names[:-1])) \
             and drive.look(call, call.names) is None:
         drive.guard(call, call.names, member=True)
-    reply = call.ask(about("PUT", "doc", call.names, body=call.body))
+
+
+def _put(call: Call) -> Answer:
+    reply = replacing.put_small(call.ask, call.names, call.body)
     if reply.status not in (201, 204):
         raise stop_of(reply, {404: 409, 409: 405 if reply.why == "wrong-kind" else 409})
     return Answer(reply.status, fields={"ETag": tag_of(call.body)})

@@ -1,0 +1,1 @@
+"""Documents of more than 1 MiB, as one."""

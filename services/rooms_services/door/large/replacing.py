@@ -1,0 +1,320 @@
+"""A document of more than 1 MiB, written part by part.
+
+Its parts are written to where none is, and the list of parts last, in one request of the room: so
+at each moment the room has the whole of the document before or the whole of the one after. What
+somebody who is refused, or a fault, leaves behind is taken away again, as far as the caller may.
+
+Parts are made by whoever makes the document, or owns it. So each has its owner and its lists, and
+nobody can do with a part what they couldn't do with the document."""
+from collections.abc import Callable, Iterable, Iterator
+
+from rooms_admin.room import in_parts
+from rooms_admin.room.in_parts import LARGEST, Manifest
+
+from ...room import large
+from ...room.answers import Answer, Stop
+from ...room.large import Asks
+from ...room.parts import Parts
+from ...room.paths import Names, shown
+from ...room.room import Ask, Reply, Room, Talk, about
+from ...room.tags import tag_of
+from ..folders.matched import Condition, against, told
+from ..folders.would import Would
+from .held import HELD
+
+# Ends the request unless its condition holds. What is there, or nothing.
+Look = Callable[[Talk], Reply | None]
+# What two objects have to have alike, so that everybody has the same rights to both.
+ALIKE = ("dacl", "sacl", "attr")
+
+
+class Upload:
+    """The body of a request, taken piece by piece."""
+
+    def __init__(self, size: int, take: Callable[[int], bytes],
+                 refuse_full: Callable[[], None]) -> None:
+        """The room may be full before all of it is there."""
+        self.size = size
+        self._take = take
+        self._refuse_full = refuse_full
+        self._sum = in_parts.Sum()
+
+    @property
+    def digest(self) -> str:
+        return self._sum.digest
+
+    def pieces(self) -> Iterator[bytes]:
+        for index in range(in_parts.count_for(self.size)):
+            piece = self._take(min(LARGEST, self.size - index * LARGEST))
+            self._refuse_full()
+            yield self._sum.add(piece)
+
+
+def refused(reply: Reply, names: Names, number: int) -> Stop:
+    """What the room says of a part is told of the document."""
+    told = {name: value for name, value in reply.told.items() if name not in ("at", "why")}
+    is_its_own = reply.at == shown(large.part(names, number))
+    return Stop(reply.status, reply.why, at=shown(names) if is_its_own else reply.at, more=told)
+
+
+class Copied(Upload):
+    """Another document of the room."""
+
+    def __init__(self, parts: Parts, refuse_full: Callable[[], None]) -> None:
+        some = iter(parts)
+        super().__init__(parts.manifest.size, lambda _: next(some), refuse_full)
+
+
+class Writing:
+    def __init__(self, room: Room, user: str, names: Names, upload: Upload, look: Look) -> None:
+        self.room, self.user, self.names = room, user, names
+        self.upload, self.look = upload, look
+        # The numbers of parts that were made, and of those that were written to.
+        self.made: list[int] = []
+        self.written: list[int] = []
+
+    def all(self) -> Answer:
+        return self._or_back(self._all)
+
+    def _or_back(self, does: Callable[[], Answer]) -> Answer:
+        try:
+            return does()
+        except BaseException:
+            self._take_back()
+            raise
+
+    def _seen(self) -> tuple[Reply | None, Manifest | None, int]:
+        """What is there, its list of parts, and how many parts there are."""
+        large.refuse_long_name(self.names)
+        if in_parts.places_for(self.upload.size) > in_parts.MOST:
+            raise Stop(413, "too-large", "a document of too many parts")
+        with self.room.talk(self.user) as talk:
+            before = self.look(talk)
+            count = large.count(talk.ask, self.names)
+        if before is None and count:
+            raise Stop(409, "left-over", "parts of an upload that was broken off are there",
+                       shown(self.names))
+        return before, in_parts.read(before.body) if before else None, count
+
+    def prepared(self) -> Answer:
+        return self._or_back(self._prepared)
+
+    def _prepared(self) -> Answer:
+        """Before any byte is sent: what stands against it."""
+        before, old, count = self._seen()
+        asked = self.names if before else self.names[:-1]
+        may = self._ask(about("GET", "can", asked, "w"))
+        if may.status != 200:
+            return may.answer()
+        if not may.rulings().get("w"):
+            raise Stop(403, "denied", at=shown(asked), more={
+                "bits": "w", "entry": None, "text": None})
+        if before:
+            self._free(old, count)
+        return Answer(204)
+
+    def _all(self) -> Answer:
+        before, old, count = self._seen()
+        now = self._over(self._free(old, count)) if before else self._new()
+        reply = self._named(now)
+        empty(self._ask, self.names, old.numbers if old else ())
+        return Answer(reply.status, fields={"ETag": now.tag})
+
+    def _ask(self, ask: Ask) -> Reply:
+        return self.room.ask(self.user, ask)
+
+    def _named(self, now: Manifest) -> Reply:
+        """The one request that all depends on. Where no answer comes, nothing is taken back: it may
+        have been done."""
+        with self.room.talk(self.user) as talk:
+            self.look(talk)
+            made, written = self.made, self.written
+            self.made, self.written = [], []
+            reply = talk.ask(about("PUT", "doc", self.names, body=now.text()))
+        if reply.status not in (201, 204):
+            self.made, self.written = made, written
+            raise refused(reply, self.names, 0)
+        return reply
+
+    def _make(self, number: int, body: bytes = b"") -> None:
+        place = large.part(self.names, number)
+        with self.room.talk(self.user) as talk:
+            if large.is_there(talk.ask, place):
+                raise Stop(409, "left-over", "something has the name of a part", shown(place))
+            reply = talk.ask(about("PUT", "doc", place, body=body))
+        if reply.status != 201:
+            raise refused(reply, self.names, number)
+        self.made.append(number)
+
+    def _new(self) -> Manifest:
+        """Whoever may add needn't be allowed to change: each is made with its bytes."""
+        parts = []
+        for number, piece in enumerate(self.upload.pieces(), 1):
+            self._make(number, piece)
+            parts.append((number, in_parts.digest_of(piece)))
+        for number in range(len(parts) + 1, in_parts.places_for(self.upload.size) + 1):
+            self._make(number)
+        return Manifest(self.upload.size, self.upload.digest, tuple(parts))
+
+    def _free(self, old: Manifest | None, count: int) -> list[int]:
+        """The numbers of enough parts that are free."""
+        used = old.numbers if old else frozenset()
+        free = [number for number in range(1, count + 1) if number not in used]
+        needed = in_parts.count_for(self.upload.size)
+        if len(free) < needed:
+            whole = max(count + needed - len(free), in_parts.places_for(self.upload.size))
+            free += self._added(range(count + 1, min(whole, in_parts.MOST) + 1))
+        return free
+
+    def _over(self, free: list[int]) -> Manifest:
+        """Whoever may change needn't be allowed to add: it goes to the parts that are free."""
+        parts = []
+        for number, piece in zip(free, self.upload.pieces()):
+            self.written.append(number)
+            reply = self._ask(about("PUT", "doc", large.part(self.names, number), body=piece))
+            if reply.status != 204:
+                raise refused(reply, self.names, number)
+            parts.append((number, in_parts.digest_of(piece)))
+        return Manifest(self.upload.size, self.upload.digest, tuple(parts))
+
+    def _added(self, numbers: range) -> range:
+        """Empty ones, which are as the document is, or else go at once: nothing is written to what
+        somebody could read or change who may not do that with the document."""
+        wanted = self._said(self.names)
+        for number in numbers:
+            self._make(number)
+            place = large.part(self.names, number)
+            if self._said(place) != wanted:
+                self._liken(place, wanted)
+        return numbers
+
+    def _said(self, names: Names) -> list[bytes]:
+        with self.room.talk(self.user) as talk:
+            may = talk.ask(about("GET", "can", names, "ct")).rulings()
+            if not (may.get("c") and may.get("t")):
+                raise self._no_place()
+            return [talk.ask(about("GET", which, names)).body for which in ALIKE]
+
+    def _liken(self, place: Names, wanted: list[bytes]) -> None:
+        """By who manages it. The lists come first: they may be what lets somebody give it away."""
+        with self.room.talk(self.user) as talk:
+            if not all(talk.ask(about("GET", "can", place, "Co")).rulings().values()):
+                raise self._no_place()
+            for which, text in zip(ALIKE, wanted, strict=True):
+                talk.ask(about("PUT", which, place, body=text))
+        if self._said(place) != wanted:
+            raise self._no_place()
+
+    def _no_place(self) -> Stop:
+        return Stop(409, "no-place", "it has too few parts for a document of this length, and only "
+                    "its owner, or who manages it and its folder, can add some", shown(self.names))
+
+    def _take_back(self) -> None:
+        """As far as the room answers and the caller may. From the last on, so that their numbers
+        have no gap."""
+        try:
+            for number in sorted(self.made, reverse=True):
+                place = large.part(self.names, number)
+                if self._ask(about("DELETE", "object", place)).status != 204:
+                    self.written.append(number)
+            empty(self._ask, self.names, self.written)
+        except Stop:
+            pass
+
+
+def empty(ask: Asks, names: Names, numbers: Iterable[int]) -> None:
+    """What was replaced is gone. Whoever may write may do that."""
+    for number in sorted(numbers):
+        ask(about("PUT", "doc", large.part(names, number)))
+
+
+def put_small(ask: Asks, names: Names, body: bytes) -> Reply:
+    """One of at most 1 MiB. The parts of one that was there before stay, and are empty."""
+    count = large.count(ask, names)
+    filled = _filled(ask, names, count) if count else ()
+    reply = ask(about("PUT", "doc", names, body=body))
+    if reply.status in (201, 204):
+        empty(ask, names, filled)
+    return reply
+
+
+def _filled(ask: Asks, names: Names, count: int) -> Iterable[int]:
+    """Who may not read it doesn't know which of them have something in them."""
+    if not ask(about("GET", "can", names, "r")).rulings().get("r"):
+        return range(1, count + 1)
+    before = ask(about("GET", "doc", names))
+    old = in_parts.read(before.body) if before.status == 200 else None
+    return [number for number in old.numbers if number <= count] if old else ()
+
+
+class Against(Stop):
+    """The condition doesn't hold, or the room said why not."""
+
+    def __init__(self, answer: Answer) -> None:
+        super().__init__(answer.status, "")
+        self._answer = answer
+
+    def answer(self, to_people: bool) -> Answer:
+        return self._answer
+
+
+def _look(names: Names, condition: Condition) -> Look:
+    def look(talk: Talk) -> Reply | None:
+        stopped = against(talk, "doc", names, condition)
+        if stopped is not None:
+            raise Against(stopped)
+        if condition.is_new:
+            return None
+        there = talk.ask(about("GET", "doc", names))
+        if there.status != 200:
+            raise Against(there.answer())
+        return there
+    return look
+
+
+def _small(room: Room, user: str, names: Names, body: bytes, condition: Condition) -> Answer:
+    with room.talk(user) as talk:
+        stopped = against(talk, "doc", names, condition)
+        if stopped is not None:
+            return stopped
+        reply = put_small(talk.ask, names, body)
+    if reply.status not in (201, 204):
+        return reply.answer()
+    return Answer(reply.status, fields={"ETag": tag_of(body)})
+
+
+def replace(room: Room, would: Would, user: str, names: Names, body: "bytes | Upload",
+            condition: Condition) -> Answer:
+    with HELD.alone(names), told(would, "doc"):
+        if isinstance(body, Upload):
+            return Writing(room, user, names, body, _look(names, condition)).all()
+        return _small(room, user, names, body, condition)
+
+
+def prepare(room: Room, would: Would, user: str, names: Names, size: int, condition: Condition,
+            refuse_full: Callable[[], None]) -> Answer:
+    upload = Upload(size, lambda _: b"", refuse_full)
+    with HELD.alone(names), told(would, "doc"):
+        return Writing(room, user, names, upload, _look(names, condition)).prepared()
+
+
+def _as_seen(names: Names) -> Look:
+    """What is there at the second look is what was there at the first."""
+    seen: list[bytes | None] = []
+
+    def look(talk: Talk) -> Reply | None:
+        there = talk.ask(about("GET", "doc", names))
+        is_gone = there.status == 404 and there.at == shown(names)
+        if there.status != 200 and not is_gone:
+            raise Against(there.answer())
+        seen.append(None if is_gone else there.body)
+        if seen[0] != seen[-1]:
+            raise Stop(412, "changed", "it isn't the one that was seen any more", shown(names))
+        return None if is_gone else there
+    return look
+
+
+def write(room: Room, user: str, names: Names, upload: Upload) -> Answer:
+    """Over whatever is there."""
+    with HELD.alone(names):
+        return Writing(room, user, names, upload, _as_seen(names)).all()

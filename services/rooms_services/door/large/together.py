@@ -1,0 +1,113 @@
+"""What is done with a document of parts as with any other: it is removed, moved, renamed, its lists
+are set, its owner changes. Nobody comes between. A kill in the middle leaves no object with other
+rights than before or after, and the same request, sent again, does the rest."""
+import json
+from collections.abc import Iterator
+
+from ...room import large
+from ...room.answers import Answer, Stop
+from ...room.large import Asks
+from ...room.paths import Names, shown
+from ...room.room import Ask, Reply, Room, about
+from ..folders import matched
+from ..folders.goes import barrier
+from ..folders.would import Would
+from .held import HELD
+from .replacing import refused
+
+
+def moving(names: Names, to: Names) -> Ask:
+    return about("POST", "move", names, body=json.dumps(
+        {"to": shown(to)}, ensure_ascii=False).encode())
+
+
+def _from_the_last(count: int) -> Iterator[int]:
+    """So that the numbers of those that are left have no gap."""
+    return iter(range(count, 0, -1))
+
+
+def remove(ask: Asks, names: Names) -> Reply:
+    """The parts first, so that none is left of what is gone. One that can't go is emptied."""
+    count = large.count(ask, names)
+    if count and _may_go(ask, names):
+        for number in _from_the_last(count):
+            place = large.part(names, number)
+            if ask(about("DELETE", "object", place)).status != 204:
+                ask(about("PUT", "doc", place))
+    return ask(about("DELETE", "object", names))
+
+
+def _may_go(ask: Asks, names: Names) -> bool:
+    own = ask(about("GET", "can", names, "d"))
+    above = ask(about("GET", "can", names[:-1], "Dw"))
+    return own.status == above.status == 200 and not barrier(own.told, above.told)
+
+
+def move(ask: Asks, names: Names, to: Names) -> Reply:
+    """The document last: it is where it was until all of it is at the new place."""
+    count = large.count(ask, names) if names and to else 0
+    if not count or not large.is_there(ask, names) or large.is_there(ask, to):
+        return ask(moving(names, to))
+    large.refuse_long_name(to)
+    moved: list[int] = []
+    for number in (*_from_the_last(count), 0):
+        reply = ask(moving(_place(names, number), _place(to, number)))
+        if reply.status != 204:
+            break
+        moved.append(number)
+    else:
+        return reply
+    for back in reversed(moved):
+        ask(moving(large.part(to, back), large.part(names, back)))
+    raise _said(reply, names, to, number)
+
+
+def _place(names: Names, number: int) -> Names:
+    return large.part(names, number) if number else names
+
+
+def _said(reply: Reply, names: Names, to: Names, number: int) -> Stop:
+    stop = refused(reply, names, number)
+    if stop.at == shown(large.part(to, number)):
+        stop.at = shown(to)
+    return stop
+
+
+def set_at_all(ask: Asks, route: str, names: Names, body: bytes) -> Reply:
+    """A list, or owners: of the parts first. One at which the caller may not do it any more has it
+    already, by a request that was killed."""
+    right = "o" if route == "attr" else "C"
+    count = large.count(ask, names)
+    if count and _may(ask, names, right):
+        for number in _from_the_last(count):
+            place = large.part(names, number)
+            if _may(ask, place, right):
+                reply = ask(about("PUT", route, place, body=body))
+                if reply.status != 204:
+                    raise refused(reply, names, number)
+    return ask(about("PUT", route, names, body=body))
+
+
+def _may(ask: Asks, names: Names, right: str) -> bool:
+    return ask(about("GET", "can", names, right)).rulings().get(right, False)
+
+
+def removed(room: Room, user: str, names: Names) -> Answer:
+    with HELD.alone(names), room.talk(user) as talk:
+        return remove(talk.ask, names).answer()
+
+
+def moved(room: Room, user: str, names: Names, to: Names) -> Answer:
+    with HELD.alone(names, to), room.talk(user) as talk:
+        return move(talk.ask, names, to).answer()
+
+
+def given(room: Room, user: str, names: Names, body: bytes) -> Answer:
+    with HELD.alone(names), room.talk(user) as talk:
+        return set_at_all(talk.ask, "attr", names, body).answer()
+
+
+def listed(room: Room, would: Would, user: str, route: str, names: Names, body: bytes,
+           condition: matched.Condition) -> Answer:
+    with HELD.alone(names):
+        return matched.replace(room, would, user, route, names, body, condition, set_at_all)

@@ -1,0 +1,60 @@
+"""Documents of more than 1 MiB, which the room keeps in parts (rooms_admin/room/in_parts.py), by
+the room's own requests."""
+from collections.abc import Callable
+
+from rooms_admin.room import in_parts
+from rooms_admin.room.in_parts import Manifest
+
+from .answers import Stop
+from .paths import LONGEST_NAME, LONGEST_PATH, Names, shown
+from .room import Ask, Reply, about, listed
+
+Asks = Callable[[Ask], Reply]
+
+
+def part(names: Names, number: int) -> Names:
+    return *names[:-1], names[-1] + in_parts.end_of(number)
+
+
+def hidden_in(listing: bytes, most: int) -> dict[bytes, bytes]:
+    """The parts in a folder, each with its document, by the room's listing, which hardly ever has
+    one."""
+    if in_parts.MARK.encode() not in listing:
+        return {}
+    found = in_parts.hidden(name.decode() for name, is_folder in listed(listing, most)
+                            if not is_folder)
+    return {name.encode(): whole.encode() for name, whole in found.items()}
+
+
+def refuse_long_name(names: Names) -> None:
+    """Its parts have names too."""
+    if len(names[-1].encode()) + in_parts.LENGTH > LONGEST_NAME \
+            or len(shown(names).encode()) + in_parts.LENGTH > LONGEST_PATH:
+        raise Stop(400, "bad-target P1", "the name is too long for a document of this length")
+
+
+def is_there(ask: Asks, names: Names) -> bool:
+    """It takes no right but the way there, and leaves no record."""
+    return ask(about("GET", "can", names)).status == 200
+
+
+def count(ask: Asks, names: Names) -> int:
+    """How many parts lie beside it, numbered from 1 on."""
+    number = 0
+    while number < in_parts.MOST and names and is_there(ask, part(names, number + 1)):
+        number += 1
+    return number
+
+
+def of(ask: Asks, names: Names, body: bytes) -> Manifest | None:
+    """The list of parts that a document of these bytes is. None of it can be read where a part is
+    missing."""
+    found = in_parts.read(body)
+    if found and not all(is_there(ask, part(names, number)) for number, _ in found.parts):
+        raise not_whole(names)
+    return found
+
+
+def not_whole(names: Names) -> Stop:
+    return Stop(409, "not-whole", "parts of the document are missing or were changed",
+                shown(names))

@@ -1,0 +1,147 @@
+"""What users may do with a document of more than 1 MiB, and with a small one, at each level of 'Who
+has access' and with each list of docs/lists.md, as the room itself answers through its door:
+
+    large_levels.py ROOM-SOCKET DOOR-SOCKET
+
+Each is asked for the same of both, and the answers have to be the same. Then everybody has to have
+the same rights to all that the large one consists of."""
+import http.client
+import itertools
+import json
+import os
+import re
+import socket
+import sys
+from collections.abc import Iterator
+
+ALL = "rwanNxDtThHdcCoy"
+MANAGE, KEEP, OWN = f"A:fd:alice:{ALL}", "D:d:EVERYONE@:Dd", "A:fi:OWNER@:d"
+SMALL, LARGE = b"small", bytes(range(256)) * 6000
+USERS = ("alice", "bob", "pat", "erin", "ella", "clara", "ivan", "petra", "zoe")
+# Who asks, and whose the document is beside their own.
+ASKING = {"policies": "bob", "minutes": "bob", "letters": "bob", "bob": "bob", "inbox": "bob",
+          "personnel": "petra", "handbook": "erin", "drafts": "ivan"}
+ABOVE = os.path.dirname(os.path.dirname(os.path.dirname(os.path.abspath(__file__))))
+
+
+class At(http.client.HTTPConnection):
+    def __init__(self, place: str) -> None:
+        super().__init__("localhost", timeout=120)
+        self.place = place
+
+    def connect(self) -> None:
+        self.sock = socket.socket(socket.AF_UNIX)
+        self.sock.settimeout(120)
+        self.sock.connect(self.place)
+
+
+def ask(place: str, user: str, method: str, target: str, body: bytes = b"", **fields: str
+        ) -> tuple[int, bytes]:
+    connection = At(place)
+    connection.request(method, target, body, {
+        "Room-User": user, "Connection": "close",
+        **{name.replace("_", "-"): value for name, value in fields.items()}})
+    reply = connection.getresponse()
+    told = reply.status, reply.read()
+    connection.close()
+    return told
+
+
+def read(name: str) -> str:
+    with open(os.path.join(ABOVE, name), encoding="utf-8") as source:
+        return source.read()
+
+
+def setups() -> Iterator[tuple[str, str, str]]:
+    """A name, the list of a folder, and who asks."""
+    forms = json.loads(read("web/tables/level_forms.js").partition("LEVEL_FORMS = ")[2]
+                       .rstrip().rstrip(";"))
+    for level, ways in forms["folder"].items():
+        lines = [f"A:{flags}g:staff:{mask}" for flags, mask in ways[0]]
+        has_head = level in ("remove", "manage", "clear")
+        rows = [MANAGE, *lines, KEEP] if has_head else [MANAGE, KEEP, *lines]
+        yield f"level {level}", "\n".join(["list:ap", *rows, *[OWN] * (level == "change")]), "bob"
+    for name, text in re.findall(r"rooms reset office.rooms /(\w+) dacl <<END\n(.*?)END",
+                                 read("docs/lists.md"), re.DOTALL):
+        for who in dict.fromkeys((ASKING[name], "bob", "clara")):
+            yield f"/{name} ({who})", text, who
+        if name == "inbox":
+            yield "/inbox with A:fi:OWNER@:rt", f"{text}A:fi:OWNER@:rt\n", "bob"
+
+
+class Played:
+    def __init__(self, room: str, door: str, folder: str, text: str) -> None:
+        self.room, self.door, self.folder = room, door, folder
+        self.must("POST", f"/folder/{folder}")
+        self.must("PUT", f"/dacl/{folder}", text.encode())
+        self.number = itertools.count()
+
+    def must(self, method: str, target: str, body: bytes = b"") -> bytes:
+        status, told = ask(self.room, "alice", method, target, body)
+        assert status in (200, 201, 204), (method, target, status, told)
+        return told
+
+    def does(self, word: str, user: str, name: str, data: bytes) -> int:
+        at = f"{self.folder}/{name}"
+        if word == "upload":
+            return ask(self.door, user, "PUT", f"/door/doc/{at}", data, If_None_Match="*")[0]
+        if word == "read":
+            status, told = ask(self.door, user, "GET", f"/door/doc/{at}")
+            assert status != 200 or told == data, (at, len(told))
+            return status
+        if word == "replace":
+            return ask(self.door, user, "PUT", f"/door/doc/{at}", data[::-1], If_Match="*")[0]
+        if word in ("rename", "move"):
+            to = f"/{self.folder}/{name}-2" if word == "rename" else f"/e/{self.folder}-{name}"
+            return ask(self.door, user, "POST", f"/door/move/{at}",
+                       json.dumps({"to": to}).encode())[0]
+        if word == "remove":
+            return ask(self.door, user, "DELETE", f"/door/object/{at}")[0]
+        if word == "give":
+            return ask(self.door, user, "PUT", f"/door/attr/{at}",
+                       b'{"owner":"zoe","group":"staff"}')[0]
+        return ask(self.door, user, "PUT", f"/door/dacl/{at}", b"list:\nA::zoe:rxtc\n",
+                   If_Match="*")[0]
+
+    def rights(self, name: str) -> dict[str, set[str]]:
+        """Of each object that a document consists of, what everybody may do there."""
+        listed = json.loads(self.must("GET", f"/folder/{self.folder}"))
+        return {one["name"]: {f"{user} {ask(self.room, user, 'GET', target)[1].decode()}"
+                              for user in USERS}
+                for one in listed if one["name"] == name or one["name"].startswith(f"{name}~")
+                for target in [f"/can/{self.folder}/{one['name']}?rwadcCot"]}
+
+    def one(self, what: str, word: str, who: str, maker: str) -> str:
+        """A word where the two differ."""
+        said = []
+        name = f"d{next(self.number)}"
+        for data in (SMALL, LARGE):
+            own = f"{name}{'l' if data is LARGE else 's'}"
+            if word != "upload" and self.does("upload", maker, own, data) != 201:
+                return ""
+            said.append(self.does(word, who, own, data))
+            if data is LARGE:
+                rights = self.rights(own)
+                if len(set(map(frozenset, rights.values()))) > 1:
+                    return f"{what}: {word} by {who} of {maker}'s: rights {rights}"
+        return "" if said[0] == said[1] else f"{what}: {word} by {who} of {maker}'s: {said}"
+
+
+def main() -> int:
+    room, door = sys.argv[1:]
+    found = []
+    count = 0
+    for number, (what, text, who) in enumerate(setups()):
+        played = Played(room, door, f"p{number}", text)
+        for word in ("upload", "read", "replace", "rename", "move", "remove", "share", "give"):
+            for maker in dict.fromkeys((who, "pat", "alice")):
+                count += 1
+                found.append(played.one(what, word, who, maker))
+    for one in filter(None, found):
+        print(one)
+    print(f"{count} compared, {len(list(filter(None, found)))} differ")
+    return 0
+
+
+if __name__ == "__main__":
+    sys.exit(main())
