@@ -14,12 +14,16 @@ sys.path.insert(0, os.path.join(os.path.dirname(os.path.realpath(__file__)), '..
 from pipelined import Room  # noqa: E402
 
 HOST = 'rooms.example'
+# Of the line, in milliseconds.
+ROUND = 100
 ALL = 'rwanNxDtThHdcCoy'
-# When the rows of a folder are there for the first time.
+# When the rows of a folder are there for the first time, and when their dates are.
 WATCH = """
 new MutationObserver((_, watching) => {
   if (!document.querySelector('table.folder tbody tr')) return;
-  window.rowsAfter = performance.now();
+  window.rowsAfter ??= performance.now();
+  if (!document.querySelector('table.folder time')) return;
+  window.datesAfter = performance.now();
   watching.disconnect();
 }).observe(document, { childList: true, subtree: true });"""
 # Does something, and answers after how many milliseconds something holds.
@@ -87,7 +91,22 @@ class Figures:
         after = self.browser.until(lambda: self.browser.script('return window.rowsAfter'), 'rows')
         self.browser.settled()
         self.note(what, after, before)
-        return self.requests() - before
+
+    def dates(self, what):
+        """How much later than the rows they come: the least of some loads."""
+        least = 1e9
+        for _ in range(5):
+            self.browser.driver.get('about:blank')
+            os.kill(self.line, signal.SIGUSR1)
+            before = self.requests()
+            self.browser.driver.get(f'{self.base}/')
+            dates = self.browser.until(lambda: self.browser.script('return window.datesAfter'),
+                                       'dates')
+            rows = self.browser.script('return window.rowsAfter')
+            least = min(least, dates - rows)
+        self.note(what, least, before)
+        # They are asked for by one round of the line, once the rows are there.
+        assert least < ROUND + 100, least
 
     def share(self, what, folder):
         self.browser.open(f'#/{folder}?access')
@@ -122,6 +141,8 @@ def main():
             checks.step(f'{version}: the first time', lambda: figures.load(
                 'the page, the first time'))
             checks.step(f'{version}: later', lambda: figures.load('the page, later'))
+            checks.step(f'{version}: dates', lambda: figures.dates(
+                'when documents changed, after their names'))
             checks.step(f'{version}: a share', lambda: figures.share(
                 f'what comes of a share, {some} objects below', 'some'))
             checks.step(f'{version}: a large share', lambda: figures.share(
