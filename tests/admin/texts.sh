@@ -88,6 +88,13 @@ status=$?
 told 'each list, and who may do what by which entry' 0 "objects 17, rows "
 holds "which is something: $(cat "$work/out")" [ "$(sed 's/.* //' "$work/out")" -gt 100 ]
 
+# By which entry somebody has a right is what the program says of one list.
+PYTHONPATH=$repo/admin /usr/bin/python3 -B "$here/admin/reasons.py" "$rooms" first 500 \
+  >"$work/out" 2>&1
+grep -qxE '500 lists, [0-9]{3} rights' "$work/out"
+status=$?
+holds "reasons of lists at random: $(head -c 600 "$work/out")" [ "$status" = 0 ]
+
 # All that one user could do is what the program says of that user.
 for user in alice bob carol eve dan "$odd" a.bob nobody; do
   "$rooms" review look/F / --user "$user" >rows.csv
