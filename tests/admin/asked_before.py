@@ -1,5 +1,7 @@
 """For tests: the question that rooms-admin makes of a room's lists, on rooms at random, against
 what came of the change: asked_before.py PROGRAM SEED ROOMS."""
+import csv
+import io
 import os
 import shutil
 import sys
@@ -10,10 +12,13 @@ from random import Random
 sys.path[0] = os.path.join(os.path.dirname(os.path.realpath(__file__)), "..", "model")
 
 from against import Program  # noqa: E402
-from would import Change, Counts, Kept, Rooms, Said, Wrong, judge, moves, sets  # noqa: E402
+from would import HEADER, Change, Counts, Kept, Rooms, Said, Wrong, judge, moves, sets  # noqa: E402
 
 from rooms_admin.lists import dump  # noqa: E402
-from rooms_admin.lists.would import moved, question, set_list  # noqa: E402
+from rooms_admin.lists.would import moved, question, rows_of, set_list  # noqa: E402
+
+# How many objects weren't asked, for each question.
+alike: list[int] = []
 
 
 def asked(kept: Kept, change: Change) -> Said:
@@ -28,7 +33,13 @@ def asked(kept: Kept, change: Change) -> Said:
     made = question(dump.whole(rows, "the dump"), at, to, wanted)
     if made is None:
         raise Wrong(f"{at!r} isn't there")
-    return Said(kept.runs("would", text=made.text().decode()))
+    alike.append(sum(map(len, made.alike.values())))
+    text = io.StringIO()
+    table = csv.writer(text)
+    table.writerow(HEADER)
+    for row in rows_of(made, kept.runs("would", text=made.text().decode())):
+        table.writerow([("yes" if one else "no") if isinstance(one, bool) else one for one in row])
+    return Said(text.getvalue())
 
 
 def compare(kept: Kept, change: Change, counts: Counts) -> None:
@@ -54,7 +65,7 @@ def main(path: str, seed: str, number: str) -> None:
                 if change:
                     compare(kept, change, counts)
                     counts.trees[what] = counts.trees.get(what, 0) + 1
-        print(counts.told())
+        print(f"{counts.told()}; {sum(alike)} alike")
     except Wrong as wrong:
         sys.exit(str(wrong))
     finally:

@@ -20,11 +20,19 @@ makes() { # USER METHOD WHAT PATH
 }
 list_is_set / list:a "A:fd:alice:$ALL" A::AUTHENTICATED@:xt
 starts
-for path in Bridge Personnel Personnel/Salaries 'a%20b'; do makes alice POST folder "$path"; done
+for path in Bridge Personnel Personnel/Salaries 'a%20b' Notes; do
+  makes alice POST folder "$path"
+done
 makes alice PUT doc Personnel/Salaries/2027.csv
 makes alice PUT doc 'a%20b/%E2%80%AEx'
 unit stop
 list_is_set /Bridge list:a A:fdg:sales:rwaxtc
+list_is_set /Notes list:a A:fdg:sales:rwaxtc D:d:EVERYONE@:D
+starts
+for name in one two three; do makes kim PUT doc "Notes/$name"; done
+makes kim POST folder Notes/four
+makes alice PUT doc Notes/five
+unit stop
 list_is_set /Personnel list:ap "A:fd:alice:$ALL"
 list_is_set /Personnel/Salaries/2027.csv list:p "A::alice:$ALL"
 room_verb backup
@@ -64,6 +72,12 @@ prints 'names that a terminal would obey, and callers without a row' \
   "\$'/a b/\\342\\200\\256x'  bob               nothing  the same" \
   "\$'/a b/\\342\\200\\256x'  kim               nothing  the same" \
   "\$'/a b/\\342\\200\\256x'  every other name  nothing  the same"
+asks_set $'list:a\nA:fdg:sales:rwaxtc\nA:fi:OWNER@:d\nD:d:EVERYONE@:D' /Notes
+prints 'each of those that are alike' \
+  'path          who  before  then' \
+  '/Notes/one    kim  rwaxtc  rwaxtdc, remove' \
+  '/Notes/three  kim  rwaxtc  rwaxtdc, remove' \
+  '/Notes/two    kim  rwaxtc  rwaxtdc, remove'
 room_verb would move /Bridge /Personnel --json
 holds 'nothing is said of a move that cannot be' [ "$status" = 2 -a ! -s "$work/out" ]
 room_verb would move /Personnel/Salaries/2027.csv /Bridge/2027.csv --json
@@ -127,6 +141,6 @@ fi
 # What comes of it, in rooms at random.
 PYTHONPATH=$repo/admin /usr/bin/python3 -B "$here/admin/asked_before.py" "$rooms" first 25 \
   >"$work/out" 2>&1
-grep -qxE '[0-9]+ lists, [0-9]+ moves: .* 0 unsaid, 0 said falsely' "$work/out"
+grep -qxE '[0-9]+ lists, [0-9]+ moves: .* 0 unsaid, 0 said falsely; [0-9]+ alike' "$work/out"
 status=$?
 holds "rooms at random: $(tail -c 1500 "$work/out")" [ "$status" = 0 ]

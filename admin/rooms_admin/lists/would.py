@@ -12,7 +12,7 @@ from ..cli.report import Refused, Stop
 from ..room import names, program
 from ..room.settings import Room
 from . import entries, naming
-from .callers import CALLED, encoded
+from .callers import CALLED, decoded, encoded
 from .dump import Object, Pair
 from .review import is_caller
 
@@ -41,9 +41,12 @@ class Row(NamedTuple):
 
 @dataclass(frozen=True)
 class Question:
-    """What there is, and the change, by their lines."""
+    """What there is, and the change, by their lines. A document stands for those beside it of the
+    same owner and group whose lists say nothing of their own, as its own does: `alike` has them by
+    its path. All are where they are then."""
     there: list[bytes]
     change: list[bytes]
+    alike: dict[str, list[str]]
 
     def text(self) -> bytes:
         return b"".join(line + b"\n" for line in self.there + self.change)
@@ -75,23 +78,51 @@ def moved(path: bytes, to: bytes) -> list[bytes]:
     return [b"move " + path, b"to " + to]
 
 
+class _Objects:
+    """Of those that a change is about: the object, what is below it, and what is on the way to it,
+    and to where it is moved."""
+
+    def __init__(self, path: bytes, to: bytes) -> None:
+        self._path, self._to = path, to
+        self._ways = {*_way(path), *_way(to)}
+        self._base = path.rstrip(b"/") + b"/"
+        self._links = naming.Links()
+        self._stands: dict[tuple[bytes, str, str], list[str]] = {}
+        self.lines: list[bytes] = []
+        self.alike: dict[str, list[str]] = {}
+        self.is_there = False
+
+    def add(self, one: Object) -> None:
+        follows = "dacl" in self._links.of(one) and all(
+            map(entries.is_inherited, one.dacl[1:]))
+        is_below = one.path.startswith(self._base)
+        if not is_below and one.path not in self._ways:
+            return
+        self.is_there = self.is_there or one.path == self._path
+        is_document = one.kind == "document"
+        if follows and is_document and one.path not in self._ways:
+            place = decoded(self._to + one.path[len(self._path):])
+            key = (naming.above(one.path), one.owner, one.group)
+            if (others := self._stands.get(key)) is not None:
+                others.append(place)
+                return
+            self._stands[key] = self.alike[place] = []
+        is_short = follows and (is_document or b"a" in one.dacl[0][5:])
+        self.lines += [f"{one.kind} {one.owner} {one.group} ".encode() + one.path,
+                       *([b"follows"] if is_short else one.dacl)]
+
+
 def question(rows: Iterable[Object | Pair], path: bytes, to: bytes, change: list[bytes]
              ) -> Question | None:
-    """Of all that the change is about: the object, what is below it, and what is on the way to it,
-    and to where it is moved. None without the object."""
-    ways, base = {*_way(path), *_way(to)}, path.rstrip(b"/") + b"/"
-    links, is_there = naming.Links(), False
+    """None without the object."""
     members: list[bytes] = []
-    objects: list[bytes] = []
+    objects = _Objects(path, to)
     for one in rows:
-        if not isinstance(one, Object):
+        if isinstance(one, Object):
+            objects.add(one)
+        else:
             members.append(f"member {one[0]} {one[1]}".encode())
-            continue
-        follows = "dacl" in links.of(one)
-        if one.path in ways or one.path.startswith(base):
-            objects += _lines(one, follows)
-            is_there = is_there or one.path == path
-    return Question(members + objects, change) if is_there else None
+    return Question(members + objects.lines, change, objects.alike) if objects.is_there else None
 
 
 def _way(path: bytes) -> Iterator[bytes]:
@@ -99,14 +130,6 @@ def _way(path: bytes) -> Iterator[bytes]:
     while path != b"/":
         path = naming.above(path)
         yield path
-
-
-def _lines(one: Object, follows: bool) -> list[bytes]:
-    """A list that says nothing of its own is told shortly."""
-    passes = one.kind == "document" or b"a" in one.dacl[0][5:]
-    is_short = follows and passes and all(map(entries.is_inherited, one.dacl[1:]))
-    return [f"{one.kind} {one.owner} {one.group} ".encode() + one.path,
-            *([b"follows"] if is_short else one.dacl)]
 
 
 def answered(room: Room, asked: Question) -> list[Row]:
@@ -117,7 +140,14 @@ def answered(room: Room, asked: Question) -> list[Row]:
         raise asked.refused(int(found[1]), found[2])
     if status != 0:
         raise Stop(f"no answer: {said or text.strip()[:300] or f'status {status}'}")
-    return list(_rows(io.StringIO(text, newline="")))
+    return rows_of(asked, text)
+
+
+def rows_of(asked: Question, text: str) -> list[Row]:
+    """Those of an answer, in order of name, also of what wasn't asked since it is alike."""
+    found = list(_rows(io.StringIO(text, newline="")))
+    found += [row._replace(path=place) for row in found for place in asked.alike.get(row.path, ())]
+    return sorted(found, key=lambda row: encoded(row.path).rstrip(b"/").split(b"/"))
 
 
 def _rows(lines: Iterable[str]) -> Iterator[Row]:
