@@ -258,12 +258,10 @@ does 'without TLS' 'curl -sf -u alice:typed http://127.0.0.1/me >/dev/null'
 types 'folders' docs/lists 'for name in policies'
 holds 'one of them was there' [ "$(grep -c '^409' "$work/out")" = 1 ]
 holds 'and the others are made' [ "$(grep -c '^201' "$work/out")" = 8 ]
-types 'each list' docs/lists 'runuser -u rooms bash' docs/lists 'office.rooms /policies' \
-  docs/lists 'office.rooms /minutes' docs/lists 'office.rooms /letters' \
-  docs/lists 'office.rooms /bob' docs/lists 'office.rooms /personnel' \
-  docs/lists 'office.rooms /handbook' docs/lists 'office.rooms /inbox' \
-  docs/lists 'office.rooms /drafts' docs/lists 'office.rooms /contracts' \
-  docs/lists 'systemctl start rooms@office'
+types 'each list' docs/lists 'list set /policies' docs/lists 'list set /minutes' \
+  docs/lists 'list set /letters' docs/lists 'list set /bob' docs/lists 'list set /personnel' \
+  docs/lists 'list set /handbook' docs/lists 'list set /inbox' docs/lists 'list set /drafts' \
+  docs/lists 'list set --sacl /contracts'
 holds 'all are set' [ "$(grep -c '^done' "$work/out")" = 9 ]
 statuses=1
 types 'a list is tried' docs/lists 'caller: ivan'

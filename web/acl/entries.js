@@ -91,3 +91,12 @@ export function lineOfEntry(text, place) {
   }
   return null;
 }
+
+// What an entry is that somebody adds.
+export function newEntry(which, kind) {
+  const reach = kind === 'folder' ? 'fd' : '';
+  if (which === 'sacl') {
+    return { type: 'U', flags: `${reach}F`, who: '', mask: kind === 'folder' ? 'rx' : 'r' };
+  }
+  return { type: 'A', flags: reach, who: '', mask: 'rxtc' };
+}

@@ -176,11 +176,3 @@ export function words(entry, draft) {
     draft.kind === 'folder' ? [texts.advanced.reach, reachWords(entry)] : null,
   ].filter((cell) => cell !== null);
 }
-
-export function newEntry(which, kind) {
-  const reach = kind === 'folder' ? 'fd' : '';
-  if (which === 'sacl') {
-    return { type: 'U', flags: `${reach}F`, who: '', mask: kind === 'folder' ? 'rx' : 'r' };
-  }
-  return { type: 'A', flags: reach, who: '', mask: 'rxtc' };
-}

@@ -1,8 +1,8 @@
 // A list as a table: own entries with their controls, inherited ones below as words.
 
 import { button, element, icon } from '../ui/dom.js';
-import { controls, newEntry, words } from './entry_controls.js';
-import { isInherited } from '../acl/entries.js';
+import { controls, words } from './entry_controls.js';
+import { isInherited, newEntry } from '../acl/entries.js';
 import { texts } from '../language/language.js';
 import { faultWords } from '../text/words.js';
 

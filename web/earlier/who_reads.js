@@ -3,7 +3,7 @@
 import { texts } from '../language/language.js';
 import { people } from '../net/directory.js';
 import { element, freshId } from '../ui/dom.js';
-import { shortened } from '../ui/names.js';
+import { shortened } from '../text/who_is.js';
 import { callerWords } from '../text/words.js';
 import { readersThen } from './readers_then.js';
 

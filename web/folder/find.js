@@ -8,7 +8,7 @@ import { findBelow } from '../net/door.js';
 import { showInTexts } from './in_texts.js';
 import { linkTo } from '../ui/links.js';
 import { tellFault, waitFor } from '../ui/messages.js';
-import { shortened } from '../ui/names.js';
+import { shortened } from '../text/who_is.js';
 import { marked } from '../text/invisible.js';
 import { isolated } from '../text/words.js';
 

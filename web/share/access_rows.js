@@ -12,7 +12,8 @@ import { endWords } from '../acl/end_dates.js';
 import { isInherited } from '../acl/entries.js';
 import { tell, tellFault } from '../ui/messages.js';
 import { levelWords, placeName } from './access_words.js';
-import { below, mark, shortened, spokenName, whoName } from '../ui/names.js';
+import { below, mark } from '../ui/names.js';
+import { shortened, spokenName, whoName } from '../text/who_is.js';
 import { isolated, rightsIn } from '../text/words.js';
 
 const rank = (level) => RANKS.indexOf(level);

@@ -6,7 +6,7 @@ import { dayWords, fullName, isOld } from '../net/directory.js';
 import { insideWords } from '../text/removers.js';
 import { WHO_HAS_ACCESS, lossWords } from '../text/warnings.js';
 import { isolated } from '../text/words.js';
-import { shortened } from '../ui/names.js';
+import { shortened } from '../text/who_is.js';
 import { subjectsOf } from './subjects.js';
 import { unreadNames } from './unread.js';
 

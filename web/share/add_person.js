@@ -15,7 +15,8 @@ import { followOutcome } from './consequences.js';
 import { fullName } from '../net/directory.js';
 import { picker } from '../ui/picker.js';
 import { levelWords, placeName } from './access_words.js';
-import { below, inSentence, mark, membersOf, whoName } from '../ui/names.js';
+import { below, mark } from '../ui/names.js';
+import { inSentence, membersOf, whoName } from '../text/who_is.js';
 import { isolated } from '../text/words.js';
 
 const MOST_MEMBERS = 8;

@@ -4,7 +4,7 @@
 import { texts } from '../language/language.js';
 import { element, nameText } from '../ui/dom.js';
 import { tell } from '../ui/messages.js';
-import { shortened, whoName } from '../ui/names.js';
+import { shortened, whoName } from '../text/who_is.js';
 import { cutOff, readLevels, withLevel } from '../acl/levels.js';
 import { confirm } from './confirm.js';
 import { levelWords } from './access_words.js';

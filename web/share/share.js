@@ -24,7 +24,7 @@ import { lookingLine } from '../ui/progress.js';
 import { placeName, shownName } from './access_words.js';
 import { onlyThese } from './only_these.js';
 import { unreadNames } from './unread.js';
-import { shortened } from '../ui/names.js';
+import { shortened } from '../text/who_is.js';
 import { isolated, sentenceOf } from '../text/words.js';
 
 const MOST_NAMED = 6;

@@ -2,7 +2,7 @@
 
 import { texts } from '../language/language.js';
 import { isolated } from '../text/words.js';
-import { shortened } from '../ui/names.js';
+import { shortened } from '../text/who_is.js';
 
 const nameOf = ({ path, count }) => {
   const place = texts.places.quoted(isolated(path));

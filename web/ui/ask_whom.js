@@ -5,7 +5,7 @@ import { inForce } from '../acl/decide.js';
 import { isGroup } from '../acl/entries.js';
 import { texts } from '../language/language.js';
 import { fullName, mine, people } from '../net/directory.js';
-import { membersOf, shortened } from './names.js';
+import { membersOf, shortened } from '../text/who_is.js';
 import { isolated } from '../text/words.js';
 
 const MOST_NAMED = 3;

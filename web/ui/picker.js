@@ -4,7 +4,8 @@ import { element, freshId, icon, nameText } from './dom.js';
 import { texts } from '../language/language.js';
 import { isName } from '../acl/entries.js';
 import { dayWords, fullName } from '../net/directory.js';
-import { mark, membersOf } from './names.js';
+import { mark } from './names.js';
+import { membersOf } from '../text/who_is.js';
 
 const MOST = 8;
 

@@ -3,7 +3,7 @@
 import { fullName, people } from '../net/directory.js';
 import { whoAmI } from '../net/api.js';
 import { texts } from '../language/language.js';
-import { shortened } from './names.js';
+import { shortened } from '../text/who_is.js';
 import { isolated } from '../text/words.js';
 
 const MOST = 4;
