@@ -1,15 +1,16 @@
 -- Rows stay sound where objects get other owners, and what they mean changes likewise.
 use Rattle.std.proofs.Common.{◌≡◌, ℕ, Bool, true, false, List, [], ◌∷◌, map, Option, Some, None}
 use Rattle.std.proofs.{Common.{refl, sym, ap, subst, ◌∙◌, arith}, lemmas.Bool.Decides.nat_tests}
-use Rattle.std.specs.{List.list_all, Option.{option_map, option_map_or}}
-use Rattle.std.specs.Prelude.{if◌then◌else◌, is_none}
-use Rattle.room_entry.specs.{Pieces.is_among, declared.object.Which.{Which, TheVariants.{Dacl, Sacl}}}
-use Rattle.room_entry.specs.declared.parties.{Caller.Caller, Owners.Owners}
+use Rattle.std.specs.{List.list_all, Option.{option_map, option_map_or}, Prelude.if◌then◌else◌}
+use Rattle.std.specs.Prelude.{is_none}
+use Rattle.room_entry.specs.{Pieces.is_among, declared.object.Which.{Which, TheVariants.Dacl}}
+use Rattle.room_entry.specs.declared.{object.Which.TheVariants.Sacl, parties.Caller.Caller}
+use Rattle.room_entry.specs.declared.parties.Owners.{Owners}
 use Rattle.room_rows.specs.{declared.node.Node.Node, Content.{Content, is_linked_in, parent_of}}
-use Rattle.room_rows.specs.{Content.with_each, Keep.with_content, Meaning.{kept_node, meaning}}
-use Rattle.room_rows.specs.{Rows.{AreRows, Rows}, Sound.{AreSound, keeps_law}}
+use Rattle.room_rows.specs.{Content.{with_each, node_at}, Keep.with_content, Meaning.kept_node}
+use Rattle.room_rows.specs.{Meaning.meaning, Rows.{AreRows, Rows}, Sound.{AreSound, keeps_law}}
 use Rattle.room_rows.proofs.InPlace.{keeps_places, numbers-with_each, numbers_of-reading}
-use Rattle.room_rows.proofs.{InPlace.rises-with_each, SamePlace.IsSamePlace}
+use Rattle.room_rows.proofs.{InPlace.{rises-with_each, KeepsPlaces}, SamePlace.IsSamePlace}
 use Rattle.room_inherit.proofs.{NoFault.{no_fault, sound_checked}, Unmoved.{above, all_kept}}
 use Rattle.room_inherit.proofs.Unmoved.{still_sound}
 use Rattle.room_sound.proofs.SoundParts.{none_numbered, none_unreadable, sound_parts}
@@ -78,7 +79,7 @@ module _ (o : ℕ → Owners → Owners) where
       numbers = rises-with_each rows.read (given o) places are.numbers;
       unreadable = are.unreadable;
       apart = subst (λ (ids : List ℕ).
-          list_all (λ id. is_none (Rattle.room_rows.specs.Content.node_at later.read id)) ids ≡ true)
+          list_all (λ id. is_none (node_at later.read id)) ids ≡ true)
           (sym (none_numbered rows (none_unreadable rows (sound_parts rows sound)))) refl;
       body_numbers = are.body_numbers;
       bodies = subst (λ (ids : List ℕ).
@@ -88,7 +89,7 @@ module _ (o : ℕ → Owners → Owners) where
       members = are.members;
     }
       where
-        places : Rattle.room_rows.proofs.InPlace.KeepsPlaces rows.read (given o)
+        places : KeepsPlaces rows.read (given o)
         places = keeps_places rows.read (given o) stays
 
 -- ---- the objects that a caller would have made itself

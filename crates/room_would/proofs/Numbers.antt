@@ -16,8 +16,8 @@ use Rattle.room_laws.proofs.OnePlace.{found_there, one_place}
 use Rattle.room_inherit.proofs.Children.{any_sorted}
 use Rattle.room_piece.{specs.Laws.{StandsAt, Stood}, proofs.Followed.{found_so, numbered_so}}
 use Rattle.room_piece.proofs.Followed.{stands_so}
-use Rattle.room_review.specs.{Laws.{told_at, told_of}, Table.{Place, place_below, place_of}}
-use Rattle.room_review.proofs.Visited.{Stands}
+use Rattle.room_review.specs.{Laws.{told_at, told_of, stored_above}, Table.{Place, place_below}}
+use Rattle.room_review.{specs.Table.place_of, proofs.Visited.Stands}
 use Rattle.room_turns.{specs.Turns.{object_of, objects_from}, proofs.Reviewed.all_stand}
 
 -- ---- whether one of many passes
@@ -31,7 +31,7 @@ any_append p (x ∷ xs) ys = ap (λ b. p x || b) (any_append p xs ys) ∙ on (p 
     on true = refl
     on false = refl
 
-any_flat : {X Y : Type 0} (p : Y → Bool) (f : X → List Y) (xs : List X)
+pub any_flat : {X Y : Type 0} (p : Y → Bool) (f : X → List Y) (xs : List X)
     → list_any p (flat_map f xs) ≡ list_any (λ x. list_any p (f x)) xs
 any_flat p f [] = refl
 any_flat p f (x ∷ xs) =
@@ -144,7 +144,7 @@ module _ (rows : Rows) (are : AreRows rows) (sound : AreSound rows) where
       on None at is = absurd (none-some last is)
       on (Some root) at is =
           told_from rows.read (all_there rows are) (length (numbers_of rows)) path
-          (place_of (Rattle.room_review.specs.Laws.stored_above rows []) (stored_site [] root)) root
+          (place_of (stored_above rows []) (stored_site [] root)) root
           (reached_first rows are root at) last is
 
   abbrev Is : Place × Node → Type 0

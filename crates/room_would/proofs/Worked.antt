@@ -1,11 +1,12 @@
 -- Worked examples of who is asked for, where an answer begins, what is refused, and what is told.
 use Rattle.std.proofs.Common.{◌≡◌, ℕ, true, false, List, [], ◌∷◌, ◌++◌, Option, Some, None, refl}
-use Rattle.std.{proofs.Common.{ap, subst}, specs.{Option.option_map, Prelude.codes, List.AllZip}}
-use Rattle.room_rows.specs.{Content.node_at, declared.node.Node.Node, Rows.Rows}
+use Rattle.std.{proofs.Common.{ap, subst, ◌∙◌}, specs.{Option.option_map, Prelude.codes, List.AllZip}}
+use Rattle.room_rows.specs.{Content.node_at, declared.node.Node.Node, Rows.Rows, Meaning.meaning}
 use Rattle.room_entry.specs.{Bits.all_bits, Rights.{delete_child, read_data}}
 use Rattle.room_entry.specs.declared.entry.{EntryKind.TheVariants.Allow, Who.Who}
 use Rattle.room_entry.specs.declared.entry.Who.TheVariants.{Members, User}
 use Rattle.room_entry.specs.declared.{object.ObjKind.TheVariants.Folder, parties.Caller.Caller}
+use Rattle.room_entry.specs.Pieces.{same_text}
 use Rattle.room_ace.specs.Sent.{Sent}
 use Rattle.room_memory.specs.Memory.{memory_rows, rows_in}
 use Rattle.room_machine.specs.{Stored.stored_site, declared.reply.Reason.TheVariants.NoSuch}
@@ -18,12 +19,12 @@ use Rattle.room_question.specs.declared.fault.QuestionWhy.TheVariants.{TooMuch}
 use Rattle.room_question.specs.declared.question.Change.{Change, TheVariants.{Moves, Sets}}
 use Rattle.room_question.specs.declared.question.{Listed.Listed, Look.Look, Object.Object}
 use Rattle.room_question.specs.declared.question.{Question.Question, Owner.Owner, Supposed.Supposed}
-use Rattle.room_review.specs.Users.{is_listed}
+use Rattle.room_review.specs.{Users.is_listed, Laws.IsUnknownIn}
 use Rattle.room_turns.specs.Turns.{View, turn_at}
 use Rattle.room_would.specs.{Faults.would_why_text, Laws.{CameFrom, SayTurned, as_found, room_in}}
 use Rattle.room_would.specs.{Lists.list_at, Looking.lost_look, Names.{names_in, users_named}}
 use Rattle.room_would.specs.{Parties.supposed_party, Paths.first_path, Would.IsAnswer}
-use Rattle.room_would.proofs.Reviewed.{would_is_the_review}
+use Rattle.room_would.proofs.{Reviewed.would_is_the_review, Unknown.nobody_is_missed}
 use Rattle.room_question.specs.declared.question.Listed.TheVariants as listed
 use Rattle.room_question.specs.declared.question.Owner.TheVariants as owner
 use Rattle.room_would.specs.declared.fault.WouldWhy.TheVariants as why
@@ -239,3 +240,16 @@ her_own = refl
 -- a caller without a name owns nothing
 nobodys : owner_at (record { user = None; groups = [] }) ≡ Some (codes "root")
 nobodys = refl
+
+-- ---- whom a question doesn't name
+
+-- of a question that names bob, alice and zoe, eve has no row, and the room doesn't know her
+eve_is_unknown : (bytes text : List ℕ) (answer : IsAnswer bytes text)
+    → answer.0 ≡ question (sets a ∷ []) → same_text answer.2.unread (codes "eve") ≡ false
+    → IsUnknownIn (meaning (rows_in answer.2.before.keep).read) (codes "eve")
+    × IsUnknownIn (meaning (rows_in answer.2.told.after.keep).read) (codes "eve")
+eve_is_unknown bytes text answer is other =
+    let law = nobody_is_missed bytes text answer in
+    law.3 (codes "eve")
+    (law.1.same (codes "eve")
+    ∙ ap (λ (q : Question). is_listed (codes "eve") (users_named q)) is) other

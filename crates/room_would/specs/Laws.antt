@@ -1,5 +1,6 @@
 -- What the rows of an answer say of the room (own).
-use Rattle.std.specs.Prelude.{◌≡◌, ℕ, false, List, []}
+use Rattle.std.specs.Prelude.{◌≡◌, ℕ, false, List, [], ◌++◌, map}
+use Rattle.room_entry.specs.Pieces.{same_text}
 use Rattle.std.specs.List.{AllByRecursion as Each, AllZip}
 use Rattle.std.specs.Option.{option_map, option_map_or}
 use Rattle.room_entry.specs.declared.parties.Caller.{Caller}
@@ -9,10 +10,11 @@ use Rattle.room_rows.specs.Rows.{Rows}
 use Rattle.room_memory.specs.Memory.{rows_in}
 use Rattle.room_change.specs.Changes.{Change as Made, Turn, came_from, changed_by, grant_at}
 use Rattle.room_piece.specs.Laws.{IsAskedFor, bare}
-use Rattle.room_review.specs.Table.{site_of}
+use Rattle.room_review.specs.{Laws.IsUnknownIn, Users.{AreUsers, is_listed}}
+use Rattle.room_review.specs.Table.{everybody, site_of}
 use Rattle.room_turns.specs.declared.asked.Asked.{Asked}
 use Rattle.room_turns.specs.Turns.{object_of, objects_from, owned_by, turn_at, view_of}
-use Rattle.room_would.specs.Would.{IsAnswer}
+use Rattle.room_would.specs.{Names.users_named, Parties.supposed_party, Would.IsAnswer}
 
 -- the room that a piece's rows mean, without the bytes of its documents, which grant nothing
 abbrev pub room_in : Rows → Content
@@ -61,3 +63,20 @@ WouldIsTheReview =
     let after = rows_in told.told.after.keep in
     (changes : List Made) × AllZip (IsAskedFor told.unread) answer.0.changes changes
     × CameFrom asked before after changes × SayTurned asked before after changes
+
+-- ---- whom it asks for
+
+-- The callers of an answer begin with the users whom the question names, each as the room has it.
+-- Whoever isn't one of these is in no pair of the room, nor of the changed one, owns nothing and
+-- stands in no dacl of them. Only the name that stands for what isn't known may own something.
+abbrev pub NobodyIsMissed : Type 0
+NobodyIsMissed =
+    (bytes text : List ℕ) (answer : IsAnswer bytes text) →
+    let told = answer.2 in
+    let before = rows_in told.before.keep in
+    (users : List (List ℕ)) × AreUsers (users_named answer.0) users × ((stranger : List ℕ)
+    × (told.told.says.says.asked.parties.items
+    ≡ everybody before.read users stranger ++ map (supposed_party stranger) answer.0.supposed))
+    × ((name : List ℕ) → is_listed name users ≡ false → same_text told.unread name ≡ false
+    → IsUnknownIn (meaning before.read) name
+    × IsUnknownIn (meaning (rows_in told.told.after.keep).read) name)
