@@ -128,7 +128,6 @@ class Found(Searching):
         self.assertIs(said["searches"], True)
         self.assertEqual(self.told("/door/latest/f")[0], 404)
 
-
     def test_a_hit_in_a_scan(self) -> None:
         """Of which no text is read by day: it has none."""
         self.room.make(g__scan=b"\xff\xd8\xffpicture")
