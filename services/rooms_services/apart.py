@@ -46,7 +46,7 @@ def asked(place: str, words: str, document: bytes, most: int, patience: float,
     while True:
         with _connected(place) as at:
             if _begins(at, until):
-                return _understood(_answered(at, f"{words}\n".encode() + document, most, seconds))
+                return _understood(_answered(at, (f"{words}\n".encode(), document), most, seconds))
         if time.monotonic() > until:
             raise Busy
         time.sleep(_PAUSE)
@@ -76,12 +76,13 @@ def _begins(at: socket.socket, until: float) -> bool:
     return got == _READY
 
 
-def _answered(at: socket.socket, sent: bytes, most: int, seconds: float) -> bytes:
+def _answered(at: socket.socket, sent: tuple[bytes, bytes], most: int, seconds: float) -> bytes:
     until = time.monotonic() + seconds
     got = bytearray()
     try:
         at.settimeout(seconds)
-        at.sendall(sent)
+        for part in sent:
+            at.sendall(part)
         at.shutdown(socket.SHUT_WR)
         while True:
             at.settimeout(max(until - time.monotonic(), _PAUSE))
@@ -106,22 +107,19 @@ def _understood(got: bytes) -> Told:
     return head, body
 
 
-def given(most: int) -> tuple[str, bytes]:
-    """In such a process: the words and the document, which may have so many bytes."""
+@contextmanager
+def given(most: int) -> Iterator[tuple[str, int]]:
+    """In such a process: the words, and the number of a file with the document, of at most so many
+    bytes, for a program that is given /proc/self/fd/NUMBER. It has no name, and is in memory, where
+    the unit has /tmp there."""
     safe.write_all(1, _READY)
-    with open(0, "rb", closefd=False) as source:
+    with open(0, "rb", closefd=False) as source, tempfile.TemporaryFile(buffering=0) as file:
         words = source.readline(_WORDS).decode("ascii", "replace").strip()
-        return words, source.read(most)
+        while most > 0 and (part := source.read(min(most, 65_536))):
+            safe.write_all(file.fileno(), part)
+            most -= len(part)
+        yield words, file.fileno()
 
 
 def answer(head: dict[str, object], body: bytes = b"") -> None:
     safe.write_all(1, written({**head, "length": len(body)}) + b"\n" + body)
-
-
-@contextmanager
-def lent(document: bytes) -> Iterator[int]:
-    """The number of a file with the document, for a program that is given /proc/self/fd/NUMBER: one
-    without a name, in memory, where the unit has /tmp there."""
-    with tempfile.TemporaryFile(buffering=0) as file:
-        safe.write_all(file.fileno(), document)
-        yield file.fileno()

@@ -4,10 +4,11 @@ unit allows is ended, and has no picture."""
 import re
 
 from rooms_admin.host import commands
-from rooms_admin.room.in_parts import LARGEST
 
 from . import apart
 
+# How many bytes a document may have.
+DOCUMENT = 33_554_432
 # Of the longer side: a page of A4 has then 170 dots an inch.
 SIDE = 2000
 # Noise of that size has 4.5 MB.
@@ -58,11 +59,10 @@ def picture(number: int, document: int) -> tuple[int, bytes]:
 
 
 def run() -> int:
-    words, document = apart.given(LARGEST)
-    try:
-        with apart.lent(document) as number:
+    with apart.given(DOCUMENT) as (words, number):
+        try:
             pages, made = picture(int(words), number)
-        apart.answer({"pages": pages}, made)
-    except Fault as fault:
-        apart.answer(fault.told)
+            apart.answer({"pages": pages}, made)
+        except Fault as fault:
+            apart.answer(fault.told)
     return 0

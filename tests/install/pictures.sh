@@ -16,7 +16,8 @@ fi
 does 'the package, and two rooms' 'dpkg -i rooms.deb
   runuser -u rooms -- rooms init /var/lib/rooms/office.rooms alice staff &&
   systemctl enable --now rooms@office && rooms-admin add invoices alice staff &&
-  rooms-admin user add alice <<<a && systemctl reload-or-restart nginx'
+  rooms-admin user add alice <<<a && rooms-admin set LARGEST=20 && rooms-admin setup &&
+  systemctl restart rooms-door@office && systemctl reload-or-restart nginx'
 shows 'its socket' rooms-picture.socket ActiveState active
 web='curl -s -u alice:a http://127.0.0.1'
 until_inside 'it is served' "[ \"\$($web/can/? -o /dev/null -w %{http_code})\" = 200 ]"
@@ -25,7 +26,7 @@ python3 -IB "$here/services/pdfs.py" "$machine/root/pdfs" >made
 cp made "$machine/root/made"
 cat >"$machine/root/each" <<EOF
 while read -r name wanted; do
-  $web/doc/\$name.pdf -o /dev/null -X PUT --data-binary @pdfs/\$name.pdf
+  $web/door/doc/\$name.pdf -o /dev/null -X PUT -H 'If-None-Match: *' -T pdfs/\$name.pdf
   read -r status took < <($web/door/pages/\$name.pdf?1 -o answer -w '%{http_code} %{time_total}\n')
   why=picture
   [ "\$status" = 200 ] || why=\$(sed 's/.*"why":"//; s/".*//' answer)

@@ -87,8 +87,7 @@ def forms_in_forms(depth: int) -> bytes:
     return drawn(stream(b"/X Do"), b"/XObject<</X 5 0 R>>", *forms, last)
 
 
-def noisy_image() -> bytes:
-    side = 590
+def noisy_image(side: int) -> bytes:
     return drawn(stream(b"q 595 0 0 842 0 0 cm /I Do Q"), b"/XObject<</I 5 0 R>>", stream(
         noise(side * side * 3), b"/Type/XObject/Subtype/Image/Width %d/Height %d/ColorSpace"
         b"/DeviceRGB/BitsPerComponent 8" % (side, side)))
@@ -102,7 +101,9 @@ ALL = {
     "plan": (pages([b"plan"], b"0 0 14400 14400"), "picture"),
     "strip": (pages([b"strip"], b"0 0 14400 1"), "picture"),
     "many": (many_pages(), "picture"),
-    "noise": (noisy_image(), "picture"),
+    "noise": (noisy_image(590), "picture"),
+    # One that a room keeps in parts, of 10 MB.
+    "scan": (noisy_image(1800), "picture"),
     "same": (whole([b"<</Type/Catalog/Pages 2 0 R>>", b"<</Type/Pages/Count 100000/Kids[%b]>>"
                     % (b"3 0 R " * 100_000), b"<</Type/Page/Parent 2 0 R/MediaBox[0 0 9 9]>>"]),
              "broken"),

@@ -10,6 +10,7 @@ from collections.abc import Callable
 from unittest import mock
 
 from over import Over
+from rooms_admin.room import in_parts
 from rooms_services import apart, picture
 from rooms_services.door.folders import pages
 from rooms_services.room.tags import tag_of
@@ -84,6 +85,32 @@ class Pages(Over):
                 "Content-Disposition": "attachment", "Cache-Control": "private, no-store"})
         # It was read as the caller, once, and nothing else was asked.
         self.assertEqual(self.room.seen, ["alice GET /doc/plan"])
+
+    def large(self, document: bytes) -> in_parts.Manifest:
+        """As a room keeps one of more than 1 MiB."""
+        parts = [document[place:place + in_parts.LARGEST]
+                 for place in range(0, len(document), in_parts.LARGEST)]
+        found = in_parts.Manifest(len(document), in_parts.digest_of(document), tuple(
+            (number, in_parts.digest_of(part)) for number, part in enumerate(parts, 1)))
+        self.room.objects["scan.pdf",] = found.text()
+        for number, part in enumerate(parts, 1):
+            self.room.objects[f"scan.pdf{in_parts.end_of(number)}",] = part
+        return found
+
+    def test_one_in_parts(self) -> None:
+        maker = self.makes()
+        document = PDF + bytes(range(256)) * 10_000
+        found = self.large(document)
+        status, fields, body = self.ask("GET", "/door/pages/scan.pdf?1")
+        self.assertEqual((status, body, fields["ETag"]), (200, JPEG, found.tag))
+        self.assertEqual(maker.given, [b"1\n" + document])
+        # One that is longer than a process gets isn't read.
+        with mock.patch.object(picture, "DOCUMENT", len(document) - 1):
+            self.assertEqual(self.ask("GET", "/door/pages/scan.pdf?1")[0], 204)
+        self.assertEqual(len(maker.given), 1)
+        # Nor is one a part of which was changed meanwhile.
+        self.room.objects[f"scan.pdf{in_parts.end_of(2)}",] = b"another one"
+        self.assertEqual(self.why("/door/pages/scan.pdf?1"), (409, "not-whole"))
 
     def test_who_may_not_read(self) -> None:
         maker = self.makes()
@@ -204,9 +231,9 @@ class Pages(Over):
 
 class Words(unittest.TestCase):
     def test_a_program_that_lacks(self) -> None:
-        with mock.patch.dict(os.environ, {"PATH": "/nowhere"}), apart.lent(PDF) as number, \
+        with mock.patch.dict(os.environ, {"PATH": "/nowhere"}), \
                 self.assertRaises(picture.Fault) as fault:
-            picture.picture(1, number)
+            picture.picture(1, 0)
         self.assertEqual(fault.exception.told, {"why": "no-pictures"})
 
 

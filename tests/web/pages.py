@@ -159,6 +159,19 @@ class Pages:
             assert alice.downloaded(f'{name}.pdf')
             alice.press('Close', 'dialog')
 
+    def large(self):
+        """A scan that the room keeps in parts."""
+        alice = self.alice
+        asked = urllib.request.Request(
+            f'{self.base}/door/doc/papers/scan.pdf', self.document('scan'), {
+                'If-None-Match': '*',
+                'Authorization': f"Basic {base64.b64encode(b'alice:a').decode()}"}, method='PUT')
+        with urllib.request.urlopen(asked) as reply:
+            assert reply.status == 201, reply.status
+        self.opened(alice, 'scan')
+        alice.until(lambda: self.alts(alice) == ['Page 1 of 1'], 'the page')
+        alice.press('Close', 'dialog')
+
     def many(self):
         """Of thousands of pages some are fetched: those that somebody gets to."""
         alice = self.alice
@@ -215,7 +228,8 @@ class Pages:
 
 PLAY = [('a PDF by one click', Pages.by_one_click), ('by keys', Pages.by_keys),
         ('by its link', Pages.by_its_link), ('on a telephone', Pages.telephone),
-        ('what can not be shown', Pages.refused), ('thousands of pages', Pages.many),
+        ('what can not be shown', Pages.refused), ('a scan of ten megabytes', Pages.large),
+        ('thousands of pages', Pages.many),
         ('who may not read it', Pages.denied), ('one that is replaced', Pages.replaced),
         ('a page that does not come', Pages.away)]
 

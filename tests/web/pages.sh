@@ -15,12 +15,14 @@ set_list P / dacl list:a "A:fd:alice:$ALL" A:fd:bob:rxtc
 start_room P 100000 || return
 mkdir -p root/var/lib/rooms-web/office/mine
 ln -s root/var/lib/rooms-web/office names
+adds setup
+sets office LARGEST 20
 start_front P || return
 python3 -IB "$here/lib/inetd.py" "$PWD/pictures" 4 prlimit --cpu=2 "$repo/deploy/rooms-service" \
   picture &
 others+=($!)
 until [ -S pictures ]; do sleep 0.02; done
-start_door office --pictures "$PWD/pictures"
+start_door office --pictures "$PWD/pictures" --largest=20
 mkdir pdfs
 python3 -IB "$here/services/pdfs.py" pdfs >/dev/null
 play 'PDFs in the page' pages.py "$PWD" "$front"

@@ -45,13 +45,14 @@ def page(room: Room, would: Would, user: str, names: Names, query: str, match: s
     seen = read(room, would, user, "doc", names, Wanted(match))
     if seen.status != 200:
         return seen
-    if seen.length is not None:
-        # One in parts is more than a process gets.
+    if (seen.length or 0) > picture.DOCUMENT:
         return Answer(204)
-    if _BEGINS not in seen.body[:_WITHIN]:
+    # (one in parts has no body)
+    document = seen.body or b"".join(seen.parts or ())
+    if _BEGINS not in document[:_WITHIN]:
         raise Stop(415, "no-pdf", "it is no PDF")
     try:
-        told, made = apart.asked(place, str(number), seen.body, picture.MOST, PATIENCE, SECONDS)
+        told, made = apart.asked(place, str(number), document, picture.MOST, PATIENCE, SECONDS)
     except apart.Absent:
         return Answer(204)
     except apart.Busy:
