@@ -11,7 +11,7 @@ from unittest import mock
 
 from over import Over
 from rooms_admin.room import in_parts
-from rooms_services import apart, picture
+from rooms_services import picture
 from rooms_services.door.folders import pages
 from rooms_services.room.tags import tag_of
 

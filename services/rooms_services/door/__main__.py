@@ -58,6 +58,7 @@ def _given() -> argparse.Namespace:
                        help="the socket of who reads the text of one document")
     words.add_argument("--pictures", default="",
                        help="the socket of who makes pictures of the pages of documents")
+    words.add_argument("--port", default="", help="that at which the room is asked too, if any")
     words.add_argument("--largest", type=int, default=1, help="how many MB a document may have")
     return words.parse_args()
 
@@ -72,7 +73,7 @@ def main() -> int:
                        os.path.join(kept, "dates"), bool(texts))
         locks = os.path.join(kept, "locks") if given.drive == "yes" else ""
         serve(given.room, given.listen, given.would, locks, given.full, keeper, texts,
-              given.pictures, given.largest << 20)
+              given.pictures, given.largest << 20, bool(given.port))
     except KeyboardInterrupt:
         pass
     except OSError as fault:

@@ -332,9 +332,10 @@ def opened(place: str, door: Door) -> Server:
 
 def serve(room: str, listen: str, would: str, locks: str, full: str,
           keeper: Keeper | None, texts: Texts | None, pictures: str = "",
-          largest: int = LARGEST) -> None:
-    """Without a file of locks there is no drive."""
-    drive = Drive(Kept(locks), full) if locks else None
+          largest: int = LARGEST, has_port: bool = False) -> None:
+    """Without a file of locks there is no drive. Whoever asks at a port of the room changes it
+    without a word to the door."""
+    drive = Drive(Kept(locks), full, None if has_port else keeper) if locks else None
     asked = Room(room, note=keeper.note if keeper else None)
     with opened(listen, Door(asked, Would(would), drive, full, keeper, texts, pictures,
                              largest)) as server:

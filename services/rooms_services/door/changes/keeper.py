@@ -32,8 +32,33 @@ _ENDS = ("", "-wal", "-shm")
 _Found = TypeVar("_Found")
 
 
+# By name, the number of a document and what stands for a look at it that isn't done.
+Looks = dict[str, tuple[int, object]]
+# Of so many documents it is remembered what was seen.
+MOST_SEEN = 50_000
+
+
 class Unknown(Exception):
     """Nothing can be said of dates now."""
+
+
+class _Mark:
+    """A look that isn't done."""
+
+
+def _looked(store: Store, folder: Names, names: list[str]) -> tuple[dict[str, object], Looks]:
+    found: dict[str, object] = {}
+    looks: Looks = {}
+    for name in names:
+        one = store.find((*folder, name))
+        if one is None:
+            continue
+        seen = store.seen.get(one)
+        if seen is None or isinstance(seen, _Mark):
+            looks[name] = one, store.seen.setdefault(one, _Mark())
+        else:
+            found[name] = seen
+    return found, looks
 
 
 class Keeper:
@@ -364,6 +389,31 @@ class Keeper:
         """The numbers that documents in a folder have in that copy, if they are as it has them, and
         stood there at this moment, in milliseconds."""
         return self._ask(lambda store: store.in_copy(folder, since) if store.vouched() else {})
+
+    def seen(self, folder: Names, names: list[str]) -> tuple[dict[str, object], Looks]:
+        """What was seen of the bytes of these documents, as far as each change since is known; and
+        for the others, with what is seen now may be kept."""
+        if not self.catch_up():
+            return {}, {}
+        try:
+            return self._ask(lambda store: _looked(store, folder, names))
+        except Unknown:
+            return {}, {}
+
+    def keep_seen(self, looks: Looks, found: dict[str, object]) -> None:
+        """Of those that didn't change between the look and now."""
+        def keep(store: Store) -> None:
+            if len(store.seen) > MOST_SEEN:
+                store.seen.clear()
+            for name, (one, mark) in looks.items():
+                if store.seen.get(one) is mark:
+                    if name in found:
+                        store.seen[one] = found[name]
+                    else:
+                        del store.seen[one]
+        with suppress(Unknown):
+            if self.catch_up():
+                self._ask(keep)
 
     def find(self, names: Names) -> int | None:
         return self._ask(lambda store: store.find(names))

@@ -89,6 +89,8 @@ class Store:
         self._has_names = has_names
         self._folders: dict[Names, int] = {}
         self._users: dict[str, int] = {}
+        # By the number of a document, what was seen of its bytes, until they may have changed.
+        self.seen: dict[int, object] = {}
         self._db = sqlite3.connect(file, check_same_thread=False, isolation_level=None)
         try:
             self._prepare()
@@ -199,6 +201,9 @@ class Store:
     def drop(self, one: int) -> None:
         """With all that is below it: in the room nothing is, but a line may have been lost."""
         self._folders.clear()
+        if self._db.execute("SELECT 1 FROM node WHERE up = ?", (one,)).fetchone():
+            self.seen.clear()
+        self.seen.pop(one, None)
         self._db.execute("WITH RECURSIVE below(id) AS (VALUES(?) UNION ALL SELECT node.id FROM "
                          "node, below WHERE node.up = below.id) DELETE FROM node WHERE id IN below",
                          (one,))
@@ -209,6 +214,10 @@ class Store:
                          (above, name, at, one))
 
     def put(self, above: int, name: str, is_folder: bool, size: int | None, by: By) -> None:
+        row = self._db.execute("SELECT id FROM node WHERE up = ? AND name = ?",
+                               (above, name)).fetchone()
+        if row:
+            self.seen.pop(row[0], None)
         self._db.execute(
             "INSERT INTO node(up, name, folder, size, at, who) VALUES(?1, ?2, ?3, ?4, ?5, ?6) "
             "ON CONFLICT(up, name) DO UPDATE SET folder = ?3, size = ?4, at = ?5, who = ?6, "
@@ -227,11 +236,13 @@ class Store:
 
     def unsure(self, one: int) -> None:
         """It may have changed: nothing is told of it until it changes again."""
+        self.seen.pop(one, None)
         self._db.execute("UPDATE node SET size = NULL, at = NULL, who = NULL, before = NULL, "
                          "sum = NULL, copied = NULL WHERE id = ?", (one,))
 
     def doubt(self, at: int, top: int = ROOT) -> None:
         """Each at or below this one may have changed until then; what changed later has."""
+        self.seen.clear()
         self._db.execute(
             "WITH RECURSIVE below(id) AS (VALUES(?) UNION ALL SELECT node.id FROM node, below "
             "WHERE node.up = below.id) UPDATE node SET at = NULL, who = NULL, size = NULL, "
@@ -255,6 +266,7 @@ class Store:
     def give_up_remembered(self) -> None:
         self._folders.clear()
         self._users.clear()
+        self.seen.clear()
 
     # Names
 
@@ -307,10 +319,12 @@ class Store:
                          (night, copied, one))
 
     def set_at_night(self, one: int, size: int | None, total: bytes | None) -> None:
+        self.seen.pop(one, None)
         self._db.execute("UPDATE node SET size = ?, sum = ? WHERE id = ?", (size, total, one))
 
     def changed_before(self, one: int, night: int) -> None:
         """Nobody told of it."""
+        self.seen.pop(one, None)
         self._db.execute("UPDATE node SET at = NULL, who = NULL, before = ? WHERE id = ?",
                          (night, one))
 

@@ -10,6 +10,7 @@ from ...room.answers import Stop
 from ...room.paths import Names, shown
 from ...room.room import Ask, Reply, Room, Talk, about, rows
 from ...room.tags import names_tag
+from ..changes.keeper import Keeper
 from ..large.replacing import Upload
 from .conditions import Condition, Listed, read_if
 from .dates import Dates
@@ -84,8 +85,10 @@ def asks_for(room: Room, user: str) -> Call:
 class Drive:
     """What only this door knows: locks, and when it saw which bytes."""
 
-    def __init__(self, kept: Kept, full: str = "") -> None:
-        """`full` is the path of a file that is there while the room takes no more."""
+    def __init__(self, kept: Kept, full: str = "", keeper: Keeper | None = None) -> None:
+        """`full` is the path of a file that is there while the room takes no more; `keeper` is told
+        of each change, where there is one."""
+        self.keeper = keeper
         self.locks = Locks(kept)
         self.tasks = Tasks(kept)
         self._full = full

@@ -72,18 +72,28 @@ def propfind(drive: Drive, call: Call) -> Answer:
         raise Stop(403, "one-folder", "one folder at a time", xml=properties.HEAD
                    + '<D:error xmlns:D="DAV:"><D:propfind-finite-depth/></D:error>\n')
     asked = properties.wanted(root)
-    found = drive.look(call, call.names, asked.is_sized, depth == "1")
+    found = drive.look(call, call.names, False, depth == "1")
     if found is None:
         raise Stop(404, "no-such", "nothing is here")
     size = None
-    if isinstance(found, Document) and found.body is not None:
-        size = objects.measure(found.body, properties.SUMS in asked.tags)
+    if isinstance(found, Document) and asked.is_sized:
+        size = _size(drive, call, asked, found)
     own = _response(drive, call, asked, call.names, isinstance(found, Folder), size,
                     drive.locks.covering(call.names))
     below: Iterator[str] = iter(())
     if isinstance(found, Folder) and depth == "1":
         below = _below(drive, call, asked, found, len(own))
     return properties.as_it_comes(chain([] if rest == "noroot" else [own], below))
+
+
+def _size(drive: Drive, call: Call, asked: Wanted, found: Document) -> Measure | None:
+    """Of one that a lock has promised there are no bytes yet."""
+    with_sums = properties.SUMS in asked.tags
+    if found.body is not None:
+        return objects.measure(found.body, with_sums)
+    (_, size), = objects.measured(call, call.names[:-1], [Child(call.names[-1], False)], with_sums,
+                                  drive.keeper)
+    return size
 
 
 def _below(drive: Drive, call: Call, asked: Wanted, found: Folder, one: int) -> Iterator[str]:
@@ -96,7 +106,8 @@ def _below(drive: Drive, call: Call, asked: Wanted, found: Folder, one: int) -> 
         raise Stop(507, "too-large", "an answer that is too long: ask for less")
     above = [lock for lock in drive.locks.covering(call.names) if lock.deep]
     here = drive.told_in(call, call.names)
-    sized = objects.measured(call, call.names, children, properties.SUMS in asked.tags) \
+    sized = objects.measured(call, call.names, children, properties.SUMS in asked.tags,
+                             drive.keeper) \
         if asked.is_sized else ((child, None) for child in children)
     return _each(drive, call, asked, sized, above, here)
 

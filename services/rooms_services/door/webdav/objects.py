@@ -13,6 +13,7 @@ from ...room.answers import Stop
 from ...room.paths import Names, shown
 from ...room.room import ROW, Ask, Reply, about, listed
 from ...room.tags import tag_of
+from ..changes.keeper import Keeper
 
 # Documents, of up to 1 MiB each, that are in memory at once.
 ROW_OF_DOCUMENTS = 8
@@ -116,21 +117,35 @@ def look(by: Asks, names: Names, with_bytes: bool, with_children: bool = False
     raise stop_of(folder)
 
 
-def measured(by: Asks, above: Names, children: list[Child], with_sums: bool
-             ) -> Iterator[tuple[Child, Measure | None]]:
+def measured(by: Asks, above: Names, children: list[Child], with_sums: bool,
+             keeper: Keeper | None) -> Iterator[tuple[Child, Measure | None]]:
     """Each, with the measure of a document that the caller may read. The room has no other way to
-    tell a length than all of the bytes."""
+    tell a length than all of the bytes, so where it is known what changed, these are read once."""
     for place in range(0, len(children), ROW):
         row = children[place:place + ROW]
-        found = _measures(by, [(*above, child.name) for child in row if not child.folder],
-                          with_sums)
+        names = [child.name for child in row if not child.folder]
+        cans = by.each(about("GET", "can", (*above, name), "r") for name in names)
+        readable = [name for name, can in zip(names, cans, strict=True)
+                    if can.rulings().get("r")]
+        found = _remembered(by, above, readable, with_sums, keeper)
         for child in row:
             yield child, found.get(child.name)
 
 
-def _measures(by: Asks, asked: list[Names], with_sums: bool) -> dict[str, Measure]:
-    cans = by.each(about("GET", "can", names, "r") for names in asked)
-    readable = [names for names, can in zip(asked, cans, strict=True) if can.rulings().get("r")]
+def _remembered(by: Asks, above: Names, readable: list[str], with_sums: bool,
+                keeper: Keeper | None) -> dict[str, Measure]:
+    if keeper is None:
+        return _measures(by, [(*above, name) for name in readable], with_sums)
+    seen, looks = keeper.seen(above, readable)
+    # (one that was read without sums lacks these)
+    known = {name: one for name, one in seen.items()
+             if isinstance(one, Measure) and (one.sums or not with_sums)}
+    read = _measures(by, [(*above, name) for name in readable if name not in known], with_sums)
+    keeper.keep_seen(looks, dict(read))
+    return known | read
+
+
+def _measures(by: Asks, readable: list[Names], with_sums: bool) -> dict[str, Measure]:
     found: dict[str, Measure] = {}
     for place in range(0, len(readable), ROW_OF_DOCUMENTS):
         row = readable[place:place + ROW_OF_DOCUMENTS]
