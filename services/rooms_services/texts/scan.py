@@ -53,6 +53,8 @@ def _pages(folder: str, data: bytes, languages: str, sink: Sink) -> State:
 def read(data: bytes) -> tuple[State, str]:
     """BLANK where there is no text."""
     sink = Sink()
+    # A page has one processor: several that wait for one another are slower on a busy machine.
+    os.environ["OMP_THREAD_LIMIT"] = "1"
     try:
         languages = _languages()
         with tempfile.TemporaryDirectory() as folder:
