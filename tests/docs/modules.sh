@@ -99,10 +99,10 @@ echo 1 >wanted
 same 'a second one is found' found wanted
 
 # What goes the wrong way is found.
-mkdir -p house/{tools,docs,low/a,low/b,low/c}
+mkdir -p house/{tools,low/a,low/b,low/c}
 cp "$repo/tools/modules" house/tools/
 printf '## low: a part\nlow/a: the first\nlow/b: the second\n' >house/modules.txt
-printf '<!-- modules -->\n<!-- /modules -->\n' >house/docs/architecture.md
+printf '<!-- modules -->\n<!-- /modules -->\n' >house/low/README.md
 echo "import { two } from '../b/two.js';" >house/low/a/one.js
 printf '%s\n' "import {" "  three," "} from './three.js';" >house/low/b/two.js
 echo "const later = () => import('./two.js');" >house/low/b/three.js
@@ -119,7 +119,7 @@ holds "a folder without a line, and an import that goes up: $(cat found)" [ "$st
 holds 'a circle' grep -q '^these name one another: low/b/t[a-z]*.js low/b/t' found
 echo '## low: a part' >house/modules.txt
 house/tools/modules --check >found
-holds 'other lists' grep -q 'docs/architecture.md has other lists' found
+holds 'another list' grep -q 'low/README.md has another list' found
 
 # Each file has parts that try it, and each part is one that some file has.
 . "$here/lib/parts.sh"
