@@ -1,5 +1,5 @@
-"""What is at a path, by the requests of the room. Nothing is remembered: the room doesn't say when
-something changes, and somebody else may change it at any moment."""
+"""What is at a path, by the requests of the room. Nothing is remembered but measures of documents,
+where the door is told of each change: somebody else may change anything at any moment."""
 import hashlib
 from collections.abc import Iterable, Iterator
 from dataclasses import dataclass
