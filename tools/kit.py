@@ -39,7 +39,7 @@ def seconds_of(crates):
     measured, and by its lines where it isn't there."""
     with open(f"{TOP}/docs/proofs.md", encoding="utf-8") as page:
         table = page.read().partition("<!-- build -->")[2].partition("<!-- /build -->")[0]
-    told = {name: int(number) for name, number in re.findall(r"`(\w+)` (\d+) ", table)}
+    told = {name: int(number) for name, number in re.findall(r"`(\w+)`\s(\d+)", table)}
     measured = [it for it in crates if it.name in told]
     lines = sum(map(lines_of, measured))
     each = sum(told[it.name] for it in measured) / lines if lines else 1

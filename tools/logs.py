@@ -75,13 +75,11 @@ def whole_time(file, seconds, stands):
 
 
 def build_table(file):
-    """Returns the seconds of each crate, three crates in a row, and the longest chains of them:
-    that of the program, and that of all."""
+    """Returns the seconds of each crate, and the longest chains of them: that of the program, and
+    that of all."""
     seconds, stands = seconds_of_crates(file), stands_on()
-    found = [f"`{name}` {took}" for name, took in seconds.items()]
-    rows = [found[it : it + 3] for it in range(0, len(found), 3)]
-    lines = [f"| {' | '.join([*it, '', ''][:3])} |\n".replace("|  |", "| |") for it in rows]
-    text = "| seconds | | |\n|---|---|---|\n" + "".join(lines)
+    found = ", ".join(f"`{name}` {took}" for name, took in seconds.items())
+    text = filled(f"Seconds of each crate: {found}.")
     chains = {}
     parts = {"the program's crates": of_program(seconds, stands), "all of these": [*seconds]}
     for what, names in parts.items():
