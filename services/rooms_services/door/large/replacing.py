@@ -7,6 +7,7 @@ somebody who is refused, or a fault, leaves behind is taken away again, as far a
 Parts are made by whoever makes the document, or owns it. So each has its owner and its lists, and
 nobody can do with a part what they couldn't do with the document."""
 from collections.abc import Callable, Iterable, Iterator
+from itertools import islice
 
 from rooms_admin.room import in_parts
 from rooms_admin.room.in_parts import LARGEST, Manifest
@@ -157,21 +158,29 @@ class Writing:
         return Manifest(self.upload.size, self.upload.digest, tuple(parts))
 
     def _free(self, old: Manifest | None, count: int) -> list[int]:
-        """The numbers of enough parts that are free."""
+        """The numbers of enough parts that are free, and are as the document is: who may add there
+        may have laid others beside it."""
         used = old.numbers if old else frozenset()
-        free = [number for number in range(1, count + 1) if number not in used]
         needed = in_parts.count_for(self.upload.size)
+        free = list(islice((number for number in range(1, count + 1)
+                            if number not in used and self._is_its_own(number)), needed))
         if len(free) < needed:
             whole = max(count + needed - len(free), in_parts.places_for(self.upload.size))
             free += self._added(range(count + 1, min(whole, in_parts.MOST) + 1))
+        if len(free) < needed:
+            raise self._no_place()
         return free
 
     def _over(self, free: list[int]) -> Manifest:
         """Whoever may change needn't be allowed to add: it goes to the parts that are free."""
         parts = []
         for number, piece in zip(free, self.upload.pieces()):
-            self.written.append(number)
-            reply = self._ask(about("PUT", "doc", large.part(self.names, number), body=piece))
+            place = large.part(self.names, number)
+            with self.room.talk(self.user) as talk:
+                if not self._is_alike(talk.ask, place):
+                    raise Stop(409, "left-over", "something has the name of a part", shown(place))
+                self.written.append(number)
+                reply = talk.ask(about("PUT", "doc", place, body=piece))
             if reply.status != 204:
                 raise refused(reply, self.names, number)
             parts.append((number, in_parts.digest_of(piece)))
@@ -180,29 +189,41 @@ class Writing:
     def _added(self, numbers: range) -> range:
         """Empty ones, which are as the document is, or else go at once: nothing is written to what
         somebody could read or change who may not do that with the document."""
-        wanted = self._said(self.names)
         for number in numbers:
             self._make(number)
-            place = large.part(self.names, number)
-            if self._said(place) != wanted:
-                self._liken(place, wanted)
+            if not self._is_its_own(number):
+                self._liken(number)
         return numbers
 
-    def _said(self, names: Names) -> list[bytes]:
-        with self.room.talk(self.user) as talk:
-            may = talk.ask(about("GET", "can", names, "ct")).rulings()
-            if not (may.get("c") and may.get("t")):
-                raise self._no_place()
-            return [talk.ask(about("GET", which, names)).body for which in ALIKE]
+    def _said(self, ask: Asks, names: Names) -> list[bytes] | None:
+        """What everybody's rights to it come from, if the caller may read that."""
+        may = ask(about("GET", "can", names, "ct")).rulings()
+        if not (may.get("c") and may.get("t")):
+            return None
+        return [ask(about("GET", which, names)).body for which in ALIKE]
 
-    def _liken(self, place: Names, wanted: list[bytes]) -> None:
-        """By who manages it. The lists come first: they may be what lets somebody give it away."""
+    def _is_its_own(self, number: int) -> bool:
+        """Whether everybody has the same rights to this part."""
         with self.room.talk(self.user) as talk:
-            if not all(talk.ask(about("GET", "can", place, "Co")).rulings().values()):
+            return self._is_alike(talk.ask, large.part(self.names, number))
+
+    def _is_alike(self, ask: Asks, place: Names) -> bool:
+        wanted = self._said(ask, self.names)
+        if wanted is None:
+            raise self._no_place()
+        return self._said(ask, place) == wanted
+
+    def _liken(self, number: int) -> None:
+        """By who manages it. The lists come first: they may be what lets somebody give it away."""
+        place = large.part(self.names, number)
+        with self.room.talk(self.user) as talk:
+            wanted = self._said(talk.ask, self.names)
+            if wanted is None or not all(
+                    talk.ask(about("GET", "can", place, "Co")).rulings().values()):
                 raise self._no_place()
             for which, text in zip(ALIKE, wanted, strict=True):
                 talk.ask(about("PUT", which, place, body=text))
-        if self._said(place) != wanted:
+        if not self._is_its_own(number):
             raise self._no_place()
 
     def _no_place(self) -> Stop:

@@ -2,7 +2,9 @@
 are set, its owner changes. Nobody comes between. A kill in the middle leaves no object with other
 rights than before or after, and the same request, sent again, does the rest."""
 import json
-from collections.abc import Iterator
+from collections.abc import Collection, Iterator
+
+from rooms_admin.room import in_parts
 
 from ...room import large
 from ...room.answers import Answer, Stop
@@ -44,22 +46,34 @@ def _may_go(ask: Asks, names: Names) -> bool:
 
 
 def move(ask: Asks, names: Names, to: Names) -> Reply:
-    """The document last: it is where it was until all of it is at the new place."""
+    """The document last: it is where it was until all of it is at the new place. What isn't of it,
+    and has no more than the name of a part, stays where it may not be moved."""
     count = large.count(ask, names) if names and to else 0
     if not count or not large.is_there(ask, names) or large.is_there(ask, to):
         return ask(moving(names, to))
     large.refuse_long_name(to)
+    used = _used(ask, names, count)
     moved: list[int] = []
     for number in (*_from_the_last(count), 0):
         reply = ask(moving(_place(names, number), _place(to, number)))
-        if reply.status != 204:
+        if reply.status == 204:
+            moved.append(number)
+        elif number in used:
             break
-        moved.append(number)
     else:
         return reply
     for back in reversed(moved):
         ask(moving(large.part(to, back), large.part(names, back)))
     raise _said(reply, names, to, number)
+
+
+def _used(ask: Asks, names: Names, count: int) -> Collection[int]:
+    """What has to come along, by its numbers: all, where the caller may not read which these
+    are."""
+    if not ask(about("GET", "can", names, "r")).rulings().get("r"):
+        return range(count + 1)
+    found = in_parts.read(ask(about("GET", "doc", names)).body)
+    return {0, *(found.numbers if found else ())}
 
 
 def _place(names: Names, number: int) -> Names:
