@@ -1,9 +1,13 @@
 """Documents of more than 1 MiB by WebDAV."""
 import unittest
+from typing import Any
+from unittest import mock
 
 from large_over import SMALL, Large, data_of, tag_of
 from over import LOCKINFO
 from rooms_admin.room import in_parts
+from rooms_services.door.large import replacing
+from rooms_services.room.answers import Answer
 
 
 class Drive(Large):
@@ -44,6 +48,34 @@ class Drive(Large):
         self.assertEqual(self.dav("PUT", "/p/d", b"small", "bob"), 204)
         self.assertEqual((self.got(), {len(self.judged.bytes_at("p", part))
                                        for part in self.parts()}), (b"small", {0}))
+
+    def test_two_at_once(self) -> None:
+        """Who waits until somebody else has written it has seen another one."""
+        write = replacing.write
+
+        def later(*given: Any) -> Answer:
+            if not meanwhile:
+                meanwhile.append(self.put(data_of(4 * SMALL, 3), match="*"))
+            return write(*given)
+        for fields, status in [({"If_Match": tag_of(self.data)}, 412), ({}, 204),
+                               ({"If": f"([{tag_of(data_of(5 * SMALL, 2))}])"}, 412)]:
+            meanwhile: list[int] = []
+            with mock.patch.object(replacing, "write", later):
+                self.assertEqual(self.dav("PUT", "/p/d", data_of(5 * SMALL, 2), "bob", **fields),
+                                 status)
+            self.assertEqual(meanwhile, [204])
+            self.assertEqual(self.got(), data_of(5 * SMALL, 2) if status == 204
+                             else data_of(4 * SMALL, 3))
+
+    def test_new_ones_at_once(self) -> None:
+        write = replacing.write
+
+        def later(*given: Any) -> Answer:
+            self.put(data_of(4 * SMALL, 3), path="p/new")
+            return write(*given)
+        with mock.patch.object(replacing, "write", later):
+            self.assertEqual(self.dav("PUT", "/p/new", self.data, "bob", If_None_Match="*"), 412)
+        self.assertEqual(self.got("bob", "p/new"), data_of(4 * SMALL, 3))
 
     def test_locked(self) -> None:
         self.assertEqual(self.dav("LOCK", "/p/d", LOCKINFO % "bob", "bob"), 200)

@@ -319,12 +319,11 @@ def prepare(room: Room, would: Would, user: str, names: Names, size: int, condit
         return Writing(room, user, names, upload, _look(names, condition)).prepared()
 
 
-def _as_seen(names: Names) -> Look:
-    """What is there at the second look is what was there at the first."""
+def _as_seen(names: Names, first: Reply | None) -> Look:
+    """What is there at each look is what was there at the first."""
     seen: list[bytes | None] = []
 
-    def look(talk: Talk) -> Reply | None:
-        there = talk.ask(about("GET", "doc", names))
+    def noted(there: Reply) -> Reply | None:
         is_gone = there.status == 404 and there.at == shown(names)
         if there.status != 200 and not is_gone:
             raise Against(there.answer())
@@ -332,10 +331,13 @@ def _as_seen(names: Names) -> Look:
         if seen[0] != seen[-1]:
             raise Stop(412, "changed", "it isn't the one that was seen any more", shown(names))
         return None if is_gone else there
-    return look
+    if first:
+        noted(first)
+    return lambda talk: noted(talk.ask(about("GET", "doc", names)))
 
 
-def write(room: Room, user: str, names: Names, upload: Upload) -> Answer:
-    """Over whatever is there."""
+def write(room: Room, user: str, names: Names, upload: Upload, seen: Reply | None = None
+          ) -> Answer:
+    """Over whatever is there, or over what was seen."""
     with HELD.alone(names):
-        return Writing(room, user, names, upload, _as_seen(names)).all()
+        return Writing(room, user, names, upload, _as_seen(names, seen)).all()

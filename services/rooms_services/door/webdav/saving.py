@@ -6,6 +6,7 @@ from ...room.tags import tag_of
 from ..large import replacing
 from .bodies import DAV
 from .calls import Call, Drive
+from .conditions import read_if
 from .objects import Folder, stop_of, too_large
 from .paths import href
 
@@ -17,9 +18,12 @@ def put(drive: Drive, call: Call) -> Answer:
             drive.heed(call)
             _guard_put(drive, call)
             answer = None if call.upload else _put(call)
+            # Somebody else may write it before this one's turn.
+            seen = call.ask(about("GET", "doc", call.names)) \
+                if call.upload and _is_about_bytes(call) else None
         if call.upload:
             with drive.reserved(call, call.names):
-                answer = replacing.write(call.room, call.user, call.names, call.upload)
+                answer = replacing.write(call.room, call.user, call.names, call.upload, seen)
     except Stop:
         if lock := drive.pending(call.user, call.names):
             lock.refused = True
@@ -30,6 +34,13 @@ def put(drive: Drive, call: Call) -> Answer:
         drive.locks.keep(lock)
     assert answer
     return answer
+
+
+def _is_about_bytes(call: Call) -> bool:
+    """Whether one of its conditions is."""
+    text = call.field("If")
+    return bool(call.field("If-Match") or call.field("If-None-Match") or text and any(
+        condition.tag for listed in read_if(text) for condition in listed.conditions))
 
 
 def _guard_put(drive: Drive, call: Call) -> None:
