@@ -66,6 +66,17 @@ export class Model {
     }
   }
 
+  // Moves an object with all in it, as the operator would.
+  move(path, to) {
+    const isIn = (one) => one === path || one.startsWith(`${path}/`);
+    const depth = ({ path: at }) => (at === '/' ? 0 : at.split('/').length);
+    const all = [...this.objects.values()].map((one) => (isIn(one.path)
+      ? { ...one, path: `${to}${one.path.slice(path.length)}` } : one));
+    this.objects = new Map(all.sort((one, other) => depth(one) - depth(other))
+      .map((one) => [one.path, one]));
+    for (const one of this.objects.values()) this.fill(one);
+  }
+
   passes(path, caller) {
     for (let at = path; at !== '/';) {
       at = above(at);

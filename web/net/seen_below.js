@@ -5,9 +5,7 @@
 import { join, parentOf } from './api.js';
 import { readListText } from '../acl/entries.js';
 import { ofOthers, passedDown } from '../acl/inherit.js';
-
-// No name of an object begins so.
-const UNNAMED = '\u0000';
+import { FOLLOWS, UNNAMED } from '../acl/question.js';
 
 // Many have the same list.
 function readingLists() {
@@ -22,18 +20,19 @@ function readingLists() {
 const follows = (list, kind) => (list === null ? null
   : { auto: true, protect: false, entries: passedDown(list.entries, kind) });
 
-// {nodes: [{path, kind, list, object, count}], unread: [{path, count}]}. Of 'unread', 'count' is 0
-// for the object itself, or says how many documents in it have lists that can't be read.
+// {nodes: [{path, kind, text, list, object, count}], unread: [{path, count}]}, 'text' as a question
+// has it. Of 'unread', 'count' is 0 for the object itself, or says how many documents in it have
+// lists that can't be read.
 export function seenBelow(told) {
   const read = readingLists();
   const lists = new Map([[told.at, read(told.list)]]);
   const nodes = [];
-  const add = (path, kind, list, object, count) => {
-    nodes.push({ path, kind, list, object, count });
+  const add = (path, kind, list, object, count, text = FOLLOWS) => {
+    nodes.push({ path, kind, text, list, object, count });
     if (kind === 'folder') lists.set(path, list);
   };
   for (const { path, kind, list, owner, group } of told.objects) {
-    add(path, kind, read(list), { owner, group }, 1);
+    add(path, kind, read(list), { owner, group }, 1, list);
   }
   // The list of a folder. One that isn't named follows the one above, and whose it is says nothing.
   const listAt = (path) => {

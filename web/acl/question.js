@@ -1,0 +1,71 @@
+// A question to the program, of what the page has read: docs/would.md has its form. Nothing is
+// decided here, and nothing is added that wasn't read.
+//
+//   questionOf(objects, changes, asked, { lists })   the text
+//
+// An object is {path, kind, text, object: {owner, group}}. 'text' is its list, FOLLOWS where it
+// only follows its folder, or null where it may not be read; so are owner and group. OF_EACH as
+// owner is each caller, and '' is somebody else. A folder comes before what is in it; the first is
+// '/'. A change is {set: path, text}, {move: path, to}, {come: path, kind, text, object} or {look:
+// path}. 'asked' is what partiesFor says. UNNAMED stands before the name of what has no name here.
+
+import { freeName } from './callers.js';
+
+export const FOLLOWS = 'follows';
+const UNREAD = 'unread';
+export const OF_EACH = '=';
+const OF_NOBODY = '?';
+// No name of an object begins so.
+export const UNNAMED = '\u0000';
+
+const at = (folder, name) => `${folder === '/' ? '' : folder}/${UNNAMED}${name}`;
+// What is imagined in a folder, by how it is asked for: a document and a folder of somebody else,
+// and a document that each caller made there.
+export const imagined = (path) => (
+  { other: at(path, 'd'), folder: at(path, 'f'), own: at(path, 'o') });
+
+// The same as objects of a question.
+export function imaginedIn({ path, object: { group } }) {
+  const paths = imagined(path);
+  const one = (name, kind, owner) => (
+    { path: paths[name], kind, text: FOLLOWS, object: { owner, group } });
+  return [one('other', 'document', ''), one('folder', 'folder', ''),
+    one('own', 'document', OF_EACH)];
+}
+
+// The text of a list as lines of a question, or the word in its place.
+const bodyOf = (text) => (text ?? UNREAD).replace(/^#(?!:)/gm, '#:').replace(/\n$/, '');
+
+// Whose it is, where that can't be read and a list asks for it.
+const nobodyOf = ({ all }) => Object.fromEntries(
+  all.filter(({ owns }) => owns).map(({ owns, key }) => [owns, key]));
+
+function headOf({ kind, path, object: { owner, group } }, nobody, sign = '') {
+  const [of, within] = [owner, group].map((one, place) => {
+    if (one === '') return OF_NOBODY;
+    return one ?? nobody[['OWNER@', 'GROUP@'][place]] ?? OF_NOBODY;
+  });
+  return `${kind}${sign} ${of} ${within} ${path}`;
+}
+
+function changeLines(change, nobody) {
+  if (change.set) return [`set ${change.set}`, bodyOf(change.text)];
+  if (change.move) return [`move ${change.move}`, `to ${change.to}`];
+  if (change.come) {
+    return [headOf({ ...change, path: change.come }, nobody, '+'), bodyOf(change.text)];
+  }
+  return [`look ${change.look}`];
+}
+
+// How names begin here that are none: no name of these paths does.
+export const markFor = (paths) => freeName('~', paths.flatMap((path) => path.split('/')));
+
+export function questionOf(objects, changes, asked, { lists = false, mark = '~' } = {}) {
+  const nobody = nobodyOf(asked);
+  const lines = [
+    ...asked.pairs.map(([group, user]) => `member ${group} ${user}`),
+    ...asked.sets.map(({ label, user, groups }) => `as ${label} ${user} ${groups.join(',')}`),
+    ...objects.flatMap((one) => [headOf(one, nobody), bodyOf(one.text)]),
+    ...changes.flatMap((one) => changeLines(one, nobody)), ...lists ? ['lists'] : []];
+  return `${lines.join('\n')}\n`.replaceAll(UNNAMED, mark);
+}
