@@ -110,6 +110,18 @@ class Memory(Over):
         tracemalloc.stop()
         self.assertLess(taken * dates.MOST // 5000, 16 * MEGABYTE)
 
+    def test_signs(self) -> None:
+        """What they are compared as is remembered, and there are more than a million."""
+        self.room.make(f=None)
+        for begin in range(0x10000, 0x40000, 60):
+            self.room.objects["f", "".join(map(chr, range(begin, begin + 60)))] = b""
+        tracemalloc.start()
+        before = tracemalloc.get_traced_memory()[0]
+        self.assertEqual(self.ask("GET", "/door/find/f?zzz")[0], 200)
+        taken = tracemalloc.get_traced_memory()[0] - before
+        tracemalloc.stop()
+        self.assertLess(taken, 8 * MEGABYTE)
+
     def test_dates_are_those_of_a_path_and_its_bytes(self) -> None:
         now = [1000.0]
         kept = dates.Dates(lambda: now[0])

@@ -14,6 +14,8 @@ _BLANKS = re.compile(r"[\s\x00-\x1f\x7f]+")
 _PARTED = re.compile(r"(?<=[^\W\d_])[-\u2010]\n\s*(?!(?:und|oder|bzw|sowie|and|or|et|ou)\b)"
                      r"(?=[a-z\u00df-\u00ff])")
 _STEP = 1000
+# Of so many signs it is remembered what they become: all that there are take 160 MB.
+REMEMBERED = 20_000
 
 
 def _of(sign: str) -> str:
@@ -24,6 +26,8 @@ def _of(sign: str) -> str:
 
 class _Table(dict[int, str]):
     def __missing__(self, code: int) -> str:
+        if len(self) >= REMEMBERED:
+            self.clear()
         self[code] = found = _of(chr(code))
         return found
 

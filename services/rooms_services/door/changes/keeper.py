@@ -418,11 +418,11 @@ class Keeper:
     def find(self, names: Names) -> int | None:
         return self._ask(lambda store: store.find(names))
 
-    def folders(self, above: int) -> list[Inside]:
-        return self._ask(lambda store: store.folders(above))
+    def folders(self, above: int, after: str, most: int) -> list[Inside]:
+        return self._ask(lambda store: store.folders(above, after, most))
 
-    def size_of_parts(self, folder: int, begin: str) -> int | None:
-        return self._ask(lambda store: store.size_of_parts(folder, begin))
+    def named(self, folder: int, begin: str, most: int) -> list[tuple[str, int | None]]:
+        return self._ask(lambda store: store.named(folder, begin, most))
 
     def newest(self, folder: int, after: tuple[int, int] | None, most: int) -> list[Newest]:
         return self._ask(lambda store: store.newest(folder, after, most))

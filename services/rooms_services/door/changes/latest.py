@@ -15,10 +15,12 @@ from ...room.paths import Names
 from ...room.room import Reply, Room, too_many
 from ..folders.walk import Node, Step, Walk, refuse_long, too_late, top_of
 from .keeper import Keeper, Unknown
-from .listed import DOCUMENT, may_know, shown
-from .store import Newest
+from .listed import DOCUMENT, Sizes, may_know, shown
+from .store import Inside, Newest
 
 MOST = 50
+# Folders that are looked up at once; and parts of documents, of all that are told.
+SOME, MOST_PARTS = 1000, 10_000
 
 
 class Latest:
@@ -50,7 +52,7 @@ class Latest:
 
     def _open(self, folder: Node) -> None:
         self.open.append(folder)
-        for inside in self.keeper.folders(self.numbers[folder]):
+        for inside in self._inside(self.numbers[folder]):
             child = Node(inside.name.encode(), True, folder)
             self.walk.seen += 1
             self.walk.named += len(child.name)
@@ -58,6 +60,13 @@ class Latest:
                 raise too_many()
             self.numbers[child] = inside.id
             self.walk.ask(self.folder, child)
+
+    def _inside(self, folder: int) -> Iterator[Inside]:
+        """There may be very many."""
+        after = ""
+        while some := self.keeper.folders(folder, after, SOME):
+            yield from some
+            after = some[-1].name
 
     def _newest(self) -> Iterator[tuple[Node, Newest]]:
         """From the newest on. There may be tens of thousands of folders, so of each no more is kept
@@ -70,15 +79,10 @@ class Latest:
             folder = self.open[number]
             for found in self.keeper.newest(self.numbers[folder], (-at, 1 - one), 1):
                 if not in_parts.whole_of(found.name):
-                    yield Node(found.name.encode(), False, folder), self._as_one(folder, found)
+                    yield Node(found.name.encode(), False, folder), found
                 self._push(heap, number, (found.known.at or 0, found.id))
             if self.walk.is_late():
                 raise too_late()
-
-    def _as_one(self, folder: Node, found: Newest) -> Newest:
-        """It is as large as its parts are."""
-        size = self.keeper.size_of_parts(self.numbers[folder], found.name + in_parts.MARK)
-        return found._replace(known=found.known._replace(size=size)) if size else found
 
     def _push(self, heap: list[tuple[int, int, int]], number: int,
               after: tuple[int, int] | None) -> None:
@@ -99,7 +103,26 @@ class Latest:
             found += [(node, one) for node, one in some if node in self.allowed]
         del found[MOST:]
         refuse_long(node for node, _ in found)
-        return [{"path": node.path, **shown(one.known)} for node, one in found]
+        sizes = self._sizes(found)
+        return [{"path": node.path, **shown(sizes.of(node, one.known))} for node, one in found]
+
+    def _sizes(self, found: list[tuple[Node, Newest]]) -> Sizes:
+        sizes = Sizes(self.walk)
+        left = MOST_PARTS
+        for node, one in found:
+            assert node.above
+            parts = [(name, size) for name, size in self.keeper.named(
+                self.numbers[node.above], one.name + in_parts.MARK, left + 1)
+                if in_parts.whole_of(name) == one.name]
+            left -= len(parts)
+            if left < 0:
+                left = 0
+                sizes.forget(node)
+                continue
+            for name, size in parts:
+                sizes.ask(node, name.encode(), size)
+        self.walk.all()
+        return sizes
 
 
 def latest(room: Room, user: str, names: Names, keeper: Keeper | None) -> Answer:

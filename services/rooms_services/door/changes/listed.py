@@ -7,12 +7,11 @@ those of the room's own listing, and the rights the room's own answers: of what 
 that denies the caller x, these are denied."""
 from collections.abc import Iterator
 
-from rooms_admin.room import in_parts
-
 from ...room.answers import Answer, told_as_it_comes
+from ...room.large import hidden_in
 from ...room.paths import Names
 from ...room.room import Reply, Room
-from ..folders.walk import Node, Step, Walk, top_of
+from ..folders.walk import MOST, Node, Step, Walk, top_of
 from .keeper import Keeper
 from .store import Known
 
@@ -37,6 +36,37 @@ def may_know(may: dict[str, bool], is_folder: bool) -> bool:
     return all(may.get(bit, False) for bit in (FOLDER if is_folder else DOCUMENT))
 
 
+class Sizes:
+    """How large documents are that have parts, by those parts of which the caller may know that:
+    what has no more than the name of one may be somebody else's."""
+
+    def __init__(self, walk: Walk) -> None:
+        self._walk = walk
+        self._parts: dict[Node, tuple[Node, int | None]] = {}
+        # What isn't known of one isn't known of all.
+        self._sizes: dict[Node, int | None] = {}
+        self._step = Step("can", DOCUMENT, self._may)
+
+    def ask(self, whole: Node, part: bytes, size: int | None) -> None:
+        if size != 0:
+            node = Node(part, False, whole.above)
+            self._parts[node] = whole, size
+            self._walk.ask(self._step, node)
+
+    def forget(self, whole: Node) -> None:
+        self._sizes[whole] = None
+
+    def _may(self, part: Node, reply: Reply) -> None:
+        whole, size = self._parts.pop(part)
+        if may_know(reply.rulings(), False):
+            before = self._sizes.get(whole, 0)
+            self._sizes[whole] = None if before is None or size is None else before + size
+
+    def of(self, whole: Node, known: Known) -> Known:
+        """Those parts that aren't in use are empty."""
+        return known._replace(size=self._sizes[whole]) if whole in self._sizes else known
+
+
 class Listed:
     def __init__(self, room: Room, user: str, keeper: Keeper | None, searches: bool) -> None:
         self.walk = Walk(room, user)
@@ -46,6 +76,7 @@ class Listed:
         self.closed: list[bytes] = []
         self.known: dict[str, Known] = {}
         self.may_know: set[Node] = set()
+        self.sizes = Sizes(self.walk)
         # By /can/, which leaves no record of somebody who tried to open it.
         self.folder = Step("can", FOLDER, self._may)
         self.document = Step("can", DOCUMENT, self._may)
@@ -58,6 +89,7 @@ class Listed:
         # (behind the room's answer, so that it is no older)
         if self.keeper and top.is_open:
             self.known = self.keeper.children(names)
+            self._ask_about_parts(listing)
         for child in self.children:
             if top.is_open:
                 self.walk.ask(self.folder if child.is_folder else self.document, child)
@@ -68,6 +100,12 @@ class Listed:
             "at": top.path, "closed": (name.decode() for name in self.closed),
             "rows": self._rows(), "searches": self.searches,
             "shows": self.keeper.shows if self.keeper else None})
+
+    def _ask_about_parts(self, listing: Reply) -> None:
+        wholes = {child.name: child for child in self.children if child.has_parts}
+        for part, whole in hidden_in(listing.body, MOST + 1).items() if self.known else ():
+            known = self.known.get(part.decode())
+            self.sizes.ask(wholes[whole], part, known.size if known else None)
 
     def _may(self, child: Node, reply: Reply) -> None:
         # (nothing is said of what is gone by now)
@@ -85,16 +123,8 @@ class Listed:
             row: dict[str, object] = {"kind": child.kind, "name": name}
             known = self.known.get(name)
             if known and child in self.may_know and known.is_folder == child.is_folder:
-                row.update(shown(self._as_one(known, name) if child.has_parts else known))
+                row.update(shown(self.sizes.of(child, known)))
             yield row
-
-    def _as_one(self, known: Known, name: str) -> Known:
-        """It is as large as its parts are, of which those that aren't in use are empty."""
-        sizes = [self.known[part].size for part, whole in in_parts.hidden(self.known).items()
-                 if whole == name]
-        if None in sizes:
-            return known._replace(size=None)
-        return known._replace(size=sum(size or 0 for size in sizes) or known.size)
 
 
 def listed(room: Room, user: str, names: Names, keeper: Keeper | None, searches: bool) -> Answer:

@@ -13,7 +13,7 @@ ROOT = 0
 COPY, GAP = "copy", "gap"
 # A date that is this far in the future, in milliseconds, is that of a clock that was wrong.
 AHEAD = 300_000
-# How many folders are remembered by their paths.
+# How many folders are remembered, by their folder and name: their paths may be many times as long.
 REMEMBERED = 20_000
 # Of the tables: another one begins with nothing.
 VERSION = 1
@@ -87,7 +87,7 @@ class Store:
 
     def __init__(self, file: str, has_names: bool) -> None:
         self._has_names = has_names
-        self._folders: dict[Names, int] = {}
+        self._folders: dict[tuple[int, str], int] = {}
         self._users: dict[str, int] = {}
         # By the number of a document, what was seen of its bytes, until they may have changed.
         self.seen: dict[int, object] = {}
@@ -167,25 +167,25 @@ class Store:
 
     def find(self, names: Names) -> int | None:
         """What is known at a path; folders are remembered until one of them moves or goes."""
-        if not names:
-            return ROOT
-        known = self._folders.get(names)
-        if known is not None:
-            return known
-        above = self.find(names[:-1])
-        if above is None:
-            return None
-        row = self._db.execute("SELECT id, folder FROM node WHERE up = ? AND name = ?",
-                               (above, names[-1])).fetchone()
-        if row and row[1]:
-            if len(self._folders) > REMEMBERED:
-                self._folders.clear()
-            self._folders[names] = row[0]
-        return row[0] if row else None
+        found = ROOT
+        for depth, name in enumerate(names, 1):
+            known = self._folders.get((found, name))
+            if known is None:
+                row = self._db.execute("SELECT id, folder FROM node WHERE up = ? AND name = ?",
+                                       (found, name)).fetchone()
+                if row is None or not row[1] and depth < len(names):
+                    return None
+                known = int(row[0])
+                if row[1]:
+                    if len(self._folders) > REMEMBERED:
+                        self._folders.clear()
+                    self._folders[found, name] = known
+            found = known
+        return found
 
     def is_folder(self, names: Names) -> bool:
         """Of what was found at this path."""
-        return not names or names in self._folders
+        return not names or (self.find(names[:-1]), names[-1]) in self._folders
 
     def folder(self, names: Names) -> int:
         """The folder at this path, which the room has, so that it is made here if it lacks."""
@@ -379,9 +379,11 @@ class Store:
                     "ON who.id = node.who WHERE up = ? AND "
                     "(size IS NOT NULL OR at IS NOT NULL OR before IS NOT NULL)", (folder,))}
 
-    def folders(self, above: int) -> list[Inside]:
+    def folders(self, above: int, after: str, most: int) -> list[Inside]:
+        """So many, by their names, behind this one."""
         return [Inside(one, name) for one, name in self._db.execute(
-            "SELECT id, name FROM node WHERE up = ? AND folder = 1 ORDER BY name", (above,))]
+            "SELECT id, name FROM node WHERE up = ? AND folder = 1 AND name > ? ORDER BY name "
+            "LIMIT ?", (above, after, most))]
 
     def newest(self, folder: int, after: tuple[int, int] | None, most: int) -> list[Newest]:
         """The documents in a folder, from the newest on, behind that moment and number."""
@@ -394,13 +396,12 @@ class Store:
                     "(at, node.id) < (?, ?) ORDER BY at DESC, node.id DESC LIMIT ?",
                     (folder, at, last, most))]
 
-    def size_of_parts(self, folder: int, begin: str) -> int | None:
-        """Of the documents in a folder whose names begin so and go on by digits, if all are
-        known."""
-        count, known, size = self._db.execute(
-            "SELECT count(*), count(size), sum(size) FROM node WHERE up = ? AND folder = 0 AND "
-            "name > ? AND name < ?", (folder, begin, f"{begin}:")).fetchone()
-        return int(size) if count and count == known else None
+    def named(self, folder: int, begin: str, most: int) -> list[tuple[str, int | None]]:
+        """Documents in a folder whose names begin so and go on by digits, with how large they are,
+        as far as they aren't empty."""
+        return list(self._db.execute(
+            "SELECT name, size FROM node WHERE up = ? AND folder = 0 AND name > ? AND name < ? AND "
+            "size IS NOT 0 LIMIT ?", (folder, begin, f"{begin}:", most)))
 
     def count(self) -> int:
         return int(self._db.execute("SELECT count(*) FROM node").fetchone()[0])
