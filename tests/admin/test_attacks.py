@@ -154,12 +154,12 @@ class Hashes(unittest.TestCase):
         self.assertTrue(re.fullmatch(passwords.MADE, passwords.NOBODYS))
         for good in (made, made.replace(b"10", b"12"), made + b":of the third floor", b"{SHA}x",
                      b"$apr1$salt$hash", b"$6$salt$hash"):
-            self.assertTrue(passwords.can_be_tried(b"eve:" + good), good)
+            self.assertTrue(passwords.nginx_tries_quickly(b"eve:" + good), good)
         for wrong in (made.replace(b"10", b"13"), made.replace(b"10", b"31"), made + b"a",
                       b"$6$rounds=999999999$x$y", b"$y$jFT$x$y", b"{SHA}x\ry"):
-            self.assertFalse(passwords.can_be_tried(b"eve:" + wrong), wrong)
+            self.assertFalse(passwords.nginx_tries_quickly(b"eve:" + wrong), wrong)
             self.assertFalse(re.fullmatch(passwords.MADE, wrong))
-        self.assertFalse(passwords.can_be_tried(b"e" * 300 + b":" + b"{PLAIN}" + b"x" * 700))
+        self.assertFalse(passwords.nginx_tries_quickly(b"e" * 300 + b":" + b"{PLAIN}" + b"x" * 700))
 
 
 class Held(unittest.TestCase):

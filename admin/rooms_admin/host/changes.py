@@ -7,7 +7,7 @@ import stat
 from grp import getgrnam
 
 from . import commands, safe
-from ..cli.report import Stop
+from ..cli.report import Refused, Stop
 
 # The user whose processes nginx's are, on Debian.
 NGINX = "www-data"
@@ -138,6 +138,15 @@ class Changes:
             return True
         return not (self.does("systemctl " + " ".join(words))
                     and run("systemctl", *words, check=check)[0])
+
+
+def changes_asked_for(destdir: str, dry: bool) -> Changes:
+    """Of a verb with these options: refuses what can't be changed."""
+    if destdir and not destdir.startswith("/"):
+        raise Refused(f"bad folder: --destdir needs an absolute path, not '{destdir}'")
+    if not destdir and not dry and os.geteuid() != 0:
+        raise Refused("not root: without root only --dry-run and --destdir work")
+    return Changes(destdir.rstrip("/"), dry)
 
 
 def run(*words: str, check: bool = True) -> tuple[int, str]:

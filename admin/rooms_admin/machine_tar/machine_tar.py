@@ -206,7 +206,7 @@ def _look_at(tar: Tar, member: tarfile.TarInfo, data: bytes) -> File:
 def _passwords(name: str, data: bytes) -> bytes:
     """The lines that are one of a user."""
     rows = data.split(b"\n")
-    good = [row for row in rows if passwords.can_be_tried(row)]
+    good = [row for row in rows if passwords.nginx_tries_quickly(row)]
     if len(good) < len(rows):
         say(f"left out: {len(rows) - len(good)} lines of /{name}, which nginx can't try, or not in "
             "a moment: give these users new passwords")

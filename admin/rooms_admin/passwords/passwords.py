@@ -190,7 +190,7 @@ def users(file: str) -> set[str]:
     return set(kinds(file))
 
 
-def can_be_tried(row: bytes) -> bool:
+def nginx_tries_quickly(row: bytes) -> bool:
     """Whether it is a line of a file of passwords that keeps nginx busy for no longer than a
     moment."""
     return len(row) <= _LONGEST_LINE and _TRIED.fullmatch(row) is not None

@@ -19,14 +19,6 @@ _OFFICE = "/etc/rooms/office.conf"
 _UNIT = "rooms-passwords.service"
 
 
-def look_first(destdir: str, dry: bool) -> Changes:
-    if destdir and not destdir.startswith("/"):
-        raise Refused(f"bad folder: --destdir needs an absolute path, not '{destdir}'")
-    if not destdir and not dry and os.geteuid() != 0:
-        raise Refused("not root: without root only --dry-run and --destdir work")
-    return Changes(destdir.rstrip("/"), dry)
-
-
 def set_up(made: Changes, pair: tuple[str, str] | None, chosen: str,
            where: settings.Directory | None) -> int:
     _user(made)

@@ -4,7 +4,8 @@ import argparse
 
 from ..cli import words
 from ..host import locks
-from ..site import adding, apply, setting_up
+from ..host.changes import changes_asked_for
+from ..site import adding, apply
 from . import setup
 from ..cli.report import Refused
 
@@ -42,7 +43,7 @@ def _look_at_words(given: argparse.Namespace) -> None:
 def run(given: argparse.Namespace) -> int:
     _look_at_words(given)
     on = given.on.lower()
-    made = setting_up.look_first(given.destdir, given.dry_run)
+    made = changes_asked_for(given.destdir, given.dry_run)
     name = given.name
     adding.look_at_name(name)
     adding.look_at_machine(made)

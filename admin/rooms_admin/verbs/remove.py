@@ -6,8 +6,9 @@ import os
 
 from ..cli import words
 from ..host import locks
+from ..host.changes import changes_asked_for
 from ..room import settings
-from ..site import adding, apply, password_files, removing, setting_up
+from ..site import adding, apply, password_files, removing
 from . import setup
 
 
@@ -17,7 +18,7 @@ def arguments(parser: words.Parser) -> None:
 
 
 def run(given: argparse.Namespace) -> int:
-    made = setting_up.look_first(given.destdir, given.dry_run)
+    made = changes_asked_for(given.destdir, given.dry_run)
     name = given.name
     adding.look_at_name(name)
     adding.look_at_machine(made)

@@ -6,8 +6,9 @@ import os
 
 from ..cli import alike, words
 from ..host import locks
+from ..host.changes import changes_asked_for
 from ..room import settings
-from ..site import setting_up, template, values
+from ..site import template, values
 from . import setup
 from ..cli.report import Refused
 
@@ -66,7 +67,7 @@ def _tell(path: str, changed: set[str], kind: type) -> None:
 
 
 def run(given: argparse.Namespace) -> int:
-    made = setting_up.look_first(given.destdir, given.dry_run)
+    made = changes_asked_for(given.destdir, given.dry_run)
     path = _file(given, made.root)
     kind = settings.kind_of(path)
     with locks.machine(made.root, made.dry):

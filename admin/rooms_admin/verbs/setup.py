@@ -4,6 +4,7 @@ import argparse
 
 from ..cli import words
 from ..host import locks
+from ..host.changes import changes_asked_for
 from ..site import setting_up
 
 
@@ -22,7 +23,7 @@ def arguments(parser: words.Parser) -> None:
 
 
 def run(given: argparse.Namespace) -> int:
-    made = setting_up.look_first(given.destdir, given.dry_run)
+    made = changes_asked_for(given.destdir, given.dry_run)
     with locks.machine(made.root, made.dry):
         pair = setting_up.look_at_pair(made, *given.tls) if given.tls else None
         where = setting_up.look_at_directory(made, given.directory) if given.directory else None
