@@ -99,4 +99,5 @@ import socket
 socket.socket(socket.AF_UNIX).connect(\"/run/rooms-own-password/file\")" 2>/dev/null || echo $user
   done'
 holds 'is nobody' [ ! -s "$work/out" ]
+sees_no_other rooms-own-password /run/rooms-own-password/socket
 stop_machine

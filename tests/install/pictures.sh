@@ -101,6 +101,7 @@ in_place() { # NAME OF WHAT IT SAYS, WORDS
 in_place probed probe.py
 : >wanted
 same 'what it can do: nothing' did wanted
+sees_no_other rooms-picture /run/rooms-picture/socket
 inside 'cat /sys/fs/cgroup/cgroup.controllers'
 if [[ " $(cat "$work/out") " = *' memory '* && " $(cat "$work/out") " = *' pids '* ]]; then
   in_place bounded 'bounds.py 320'

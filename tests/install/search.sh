@@ -105,6 +105,7 @@ does 'it is asked' "${said/rooms-extract/rooms-scan}"
 cp "$work/out" did
 can 'who reads a scan' ''
 rm -r "$machine/etc/systemd/system/rooms-scan@.service.d"
+for one in extract scan; do sees_no_other "rooms-$one" "/run/rooms-$one/socket"; done
 # One that takes what it can: time, memory, files, processes.
 cat >"$machine/usr/local/lib/takes.py" <<'END'
 import contextlib, os, resource, sys, time

@@ -96,3 +96,20 @@ until_inside() { # NAME TEXT: it succeeds soon
 ends() { # NAME UNIT: with what it does after its run
   until_inside "$1 ends" "systemctl show $2 -p ActiveState --value | grep -qx -e inactive -e failed"
 }
+
+# That no process of a unit sees into another one, each of which may have what the other may not.
+sees_no_other() { # UNIT SOCKET
+  local folder=$machine/etc/systemd/system/$1@.service.d
+  rm -rf "$folder"
+  mkdir -p "$folder"
+  cp "$here/install/beside.py" "$machine/usr/local/lib/"
+  printf '%s\n' '[Service]' ExecStart= 'ExecStart=/usr/bin/python3 -I /usr/local/lib/beside.py' \
+    >"$folder/beside.conf"
+  does "two of $1" "systemctl daemon-reload; python3 -I /usr/local/lib/beside.py $2
+    systemctl stop '$1@*'"
+  cp "$work/out" did
+  rm -r "$folder"
+  does 'as it was' 'systemctl daemon-reload'
+  echo looks >wanted
+  same "one of $1 sees nothing of another one" did wanted
+}
