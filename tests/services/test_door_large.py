@@ -13,6 +13,7 @@ from large_over import ADD, DROP, KEEP, MANAGE, READ, SMALL, Large, data_of, tag
 from rooms_admin.room import in_parts
 from rooms_admin.room.in_parts import LARGEST
 from rooms_services.door.large import replacing
+from rooms_services.room import parts
 
 
 class Whole(Large):
@@ -54,6 +55,20 @@ class Whole(Large):
             self.assertEqual(self.ask("GET", "/door/doc/p/d", user="bob", Range=wanted)[2], data)
         self.assertEqual(self.ask("GET", "/door/doc/p/d", user="bob", Range="bytes=0-1",
                                   If_Range='"other"')[2], data)
+
+    def test_taken_slowly(self) -> None:
+        """It has no end then."""
+        data = data_of(5 * SMALL)
+        self.put(data)
+        head = b"GET /door/doc/p/d HTTP/1.1\r\nRoom-User: bob\r\n\r\n"
+        with mock.patch.object(parts, "SECONDS", -1.0), mock.patch.object(parts, "SLOWEST", 1e9):
+            # (what is wrong before its first byte has a status)
+            self.assertTrue(self.raw(head).startswith(b"HTTP/1.1 502 "))
+        clock = iter(range(0, 10_000, 900))
+        with mock.patch.object(parts, "time", mock.Mock(monotonic=lambda: float(next(clock)))):
+            got = self.raw(head)
+        self.assertTrue(got.startswith(b"HTTP/1.1 200 "))
+        self.assertEqual(len(got.partition(b"\r\n\r\n")[2]), 4 * SMALL)
 
     def test_too_large(self) -> None:
         self.assertEqual(self.put(bytes(100 * SMALL + 1)), 413)

@@ -85,6 +85,33 @@ class Busy(Over):
             time.sleep(0.01)
         self.assertEqual((dict(self.door.users._all), dict(self.door.users._running)), ({}, {}))
 
+    def test_what_takes_long_leaves_turns_for_the_rest(self) -> None:
+        """Whoever takes ZIPs and large documents slowly, with others who search, look and go
+        through folders, keeps nobody from a document."""
+        users = turns.Users()
+        kinds = ("zip", "large", "search", "picture", "walk")
+        held = threading.Event()
+
+        def hold(user: str, kind: str) -> None:
+            with users.turn(user, kind):
+                held.wait(20)
+        threads = [threading.Thread(target=hold, args=(f"{kind}{number}", kind))
+                   for kind in kinds for number in range(5)]
+        for thread in threads:
+            thread.start()
+        try:
+            until = time.monotonic() + 10
+            while users._all.total() < 25 and time.monotonic() < until:
+                time.sleep(0.01)
+            with mock.patch.object(turns, "PATIENCE", 1.0):
+                for number in range(4):
+                    with users.turn(f"other{number}"):
+                        pass
+        finally:
+            held.set()
+            for thread in threads:
+                thread.join()
+
     def test_connections(self) -> None:
         """More than so many wait until one ends."""
         with mock.patch.object(serve, "MOST", 4):

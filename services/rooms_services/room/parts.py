@@ -1,6 +1,7 @@
 """A document of parts, read as one. Each part is asked for by itself, so that others are answered
 in between, and compared with its digest: whoever reads while it is replaced gets one version or an
 end in the middle, and never two halves."""
+import time
 from collections.abc import Iterator
 from itertools import chain
 
@@ -11,7 +12,11 @@ from . import large
 from .answers import Answer
 from .paths import Names
 from .ranges import range_of, said
-from .room import Room, about
+from .room import Room, about, ended
+
+# How long one is sent at most, or as long as it takes at so many bytes a second: whoever takes it
+# slowly has the turn of somebody else.
+SECONDS, SLOWEST = 3600.0, 30_000
 
 
 class Parts:
@@ -52,6 +57,14 @@ class Parts:
         first, end = part or (0, size)
         if part:
             fields = {**fields, "Content-Range": said(part, size)}
-        some = self.between(first, end)
+        some = _in_time(self.between(first, end), max(SECONDS, (end - first) / SLOWEST))
         return Answer(206 if part else 200, kind="application/octet-stream", fields=fields,
                       parts=chain([next(some)], some), length=end - first)
+
+
+def _in_time(parts: Iterator[bytes], seconds: float) -> Iterator[bytes]:
+    until = time.monotonic() + seconds
+    for part in parts:
+        if time.monotonic() > until:
+            raise ended()
+        yield part

@@ -11,8 +11,9 @@ from .answers import Stop
 
 # Of one user, of all users, and how many of one user's may wait.
 RUNNING, RUNNING_ALL, WAITING = 2, 16, 14
-# Of those who go through folders, which takes memory, and of ZIPs, which may be taken slowly.
-LONG, LONG_ALL = 1, 4
+# Of those who go through folders, which takes memory, and of ZIPs, which may be taken slowly; and of
+# all that may take long, so that the rest has turns.
+LONG, LONG_ALL, LONG_TOGETHER = 1, 4, 12
 PATIENCE = waits.ANSWER
 
 
@@ -59,9 +60,12 @@ class Users:
         self._long: defaultdict[str, Counter[str]] = defaultdict(Counter)
 
     def _may_run(self, user: str, kind: str) -> bool:
-        long = self._long[kind]
         return (self._running[user] < RUNNING and self._running.total() < RUNNING_ALL
-                and not (kind and (long[user] >= LONG or long.total() >= LONG_ALL)))
+                and not (kind and self._is_too_much(user, self._long[kind])))
+
+    def _is_too_much(self, user: str, long: Counter[str]) -> bool:
+        return (long[user] >= LONG or long.total() >= LONG_ALL
+                or self._running.total() - self._long[""].total() >= LONG_TOGETHER)
 
     def _less(self, counter: Counter[str], user: str) -> None:
         counter[user] -= 1
