@@ -161,6 +161,7 @@ done
 
 # The flag comes, goes, and stays as it should.
 flag=run/rooms-full/office.full
+left=run/rooms-full/office.left
 watcher=
 watch() {
   write_conf "$1"
@@ -182,6 +183,7 @@ holds 'no flag before' is_missing "$flag"
 watch 2
 within 'a LIMIT below what is in use' is_there "$flag"
 holds 'it says so' grep -qF 'the room is full: 3 MB are in use, and LIMIT is 2' watched
+within 'nothing is left' grep -qx 0 "$left"
 # A look starts no process, and reads of the log what is new.
 spent() { # hundredths of a second, of the watch and whatever it started
   local one fields all=0
@@ -212,12 +214,20 @@ mv room/G room/F
 within 'it is back' grep -qF 'F can be read again' watched
 unwatch TERM
 within 'no flag stays after a stop' is_missing "$flag"
+holds 'nor what was left' is_missing "$left"
+watch 9
+within 'what is left is told in whole megabytes' grep -qx 5242880 "$left"
+megabytes root /more 1
+within 'and told anew' grep -qx 4194304 "$left"
+asks 'it is removed' done_reply DELETE /object/more1 root
+unwatch KILL
 watch 2
 within 'a flag once more' is_there "$flag"
 unwatch KILL
 watch none
 within 'LIMIT=none takes a flag away that was left' is_missing "$flag"
 holds 'and says so' grep -qF 'the room has no limit' watched
+holds 'and what was left' is_missing "$left"
 unwatch TERM
 # Behind nginx: what adds is refused, all else goes on, and removing makes room.
 if [ -z "$nginx" ] || ! has curl; then

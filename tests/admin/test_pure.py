@@ -194,7 +194,8 @@ class Lists(unittest.TestCase):
 
     def test_of_a_room_elsewhere(self) -> None:
         listed = self.lines(adding._text_of("hr", "b.example", "8443", "HR"))
-        self.assertEqual(listed, settings.ELSEWHERE | {"TITLE": "HR", "ON": "b.example"})
+        self.assertEqual(listed, settings.ELSEWHERE | {
+            "TITLE": "HR", "ON": "b.example", "LARGEST": "100"})
 
     def test_of_the_site(self) -> None:
         with tempfile.TemporaryDirectory() as root, contextlib.redirect_stdout(io.StringIO()):

@@ -166,6 +166,11 @@ for room in office invoices hr; do
   same "the settings of $room" got wanted
 done
 
+# A new room takes documents of 100 MB, and nginx too.
+holds 'a document may be large' [ "$(value office LARGEST)" = 100 ]
+holds 'of which the page is told' grep -qx '    office 104857600;' "$site"
+holds 'and nginx lets it pass' grep -q 'client_max_body_size 100m;' "$site"
+
 # A port at which something listens.
 open_room F 2>/dev/null
 if [ -s F ] && start_server F 100; then

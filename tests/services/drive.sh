@@ -27,6 +27,7 @@ admin setup
 admin add invoices
 holds 'another room' [ "$status" = 0 ]
 sets office DRIVE yes
+sets office LARGEST 2
 start_front 'documents edited in place' || return
 start_door office --drive=yes
 start_door invoices --drive=yes
@@ -138,10 +139,10 @@ for field in 'Origin: https://x.example' 'Sec-Fetch-Site: cross-site'; do
 done
 answer alice:a /drive/letter.odt
 holds 'a browser saves it' grep -qi '^content-disposition: attachment' "$work/head"
-head -c 1048577 /dev/zero >big
+head -c 2097153 /dev/zero >big
 lock alice:a /big.odt
 dav 'too large' 413 alice:a PUT /big.odt --data-binary @big -H "If: ($token)" -H 'Expect:'
-holds 'in words' grep -qF 'a document has at most 1048576 bytes' "$work/body"
+holds 'in words' grep -qF 'a document has at most 2097152 bytes' "$work/body"
 dav 'is given up' 204 alice:a UNLOCK /big.odt -H "Lock-Token: $token"
 ask 'and nothing took its place' 404 - alice:a /doc/big.odt
 mkdir -p run/rooms-full

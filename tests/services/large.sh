@@ -19,7 +19,7 @@ admin setup
 sets office LARGEST 20
 sets office DRIVE yes
 start_front 'large documents' || return
-start_door office --largest=20 --drive=yes
+start_door office --drive=yes
 socket=$PWD/run/rooms/office/socket
 ask 'a folder' 201 '' alice:x /folder/p -X POST
 printf '%s\n' list:ap "A:fd:alice:$ALL" D:d:EVERYONE@:Dd A:fdg:staff:rwaxtc A:fi:OWNER@:d >list
@@ -126,7 +126,7 @@ for turn in {1..12}; do
   sleep "0.$(printf %02d $((RANDOM % 30)))"
   kill -9 "${doors[-1]}"
   wait "${doors[-1]}" "$asked" 2>/dev/null
-  start_door office --largest=20 --drive=yes
+  start_door office --drive=yes
   curl -s -o got -u pat:x "$base/door/doc/p/kept"
   if cmp -s got next; then cp next now; fi
   holds "a kill ($turn, $(cat code)) leaves one or the other" cmp -s got now
@@ -139,7 +139,7 @@ for turn in {1..8}; do
   sleep "0.$(printf %02d $((RANDOM % 20)))"
   kill -9 "${doors[-1]}"
   wait "${doors[-1]}" "$asked" 2>/dev/null
-  start_door office --largest=20 --drive=yes
+  start_door office --drive=yes
   got=$(curl -s -o got -w '%{http_code}' -u pat:x "$base/door/doc/p/new$turn")
   if [ "$got" = 200 ]; then holds "a kill ($turn) leaves all of it" cmp -s got next
   else holds "a kill ($turn) leaves no document: $got" [ "$got" = 404 ]; fi
@@ -151,7 +151,7 @@ for turn in {1..8}; do
   sleep "0.0$((RANDOM % 5))"
   kill -9 "${doors[-1]}"
   wait "${doors[-1]}" "$asked" 2>/dev/null
-  start_door office --largest=20 --drive=yes
+  start_door office --drive=yes
   curl -s -o out -u pat:x "$base/door/move/p/way$turn" -d "{\"to\":\"/e/way$turn\"}"
   same_bytes "a move that is sent again does the rest ($turn)" "/door/doc/e/way$turn" next
 done

@@ -98,8 +98,45 @@ class Whole(Large):
         self.assertEqual(self.places(4 * SMALL, "bob", **old), (204, ""))
         self.assertEqual(self.put(data_of(4 * SMALL), "bob", match="*"), 204)
         self.put_list("/p", READ)
-        self.assertEqual(self.places(4 * SMALL, "bob", **old), (403, "denied"))
+        self.assertEqual(self.places(4 * SMALL, "bob", **old), (403, ""))
         self.assert_as_one()
+
+    def test_what_the_room_has_left(self) -> None:
+        """It is said before the first byte, and to nobody who may not write there."""
+        new = {"If_None_Match": "*"}
+        with open(self.at("full.left"), "w") as left:
+            left.write("4000\n")
+        self.assertEqual(self.places(4 * SMALL, "pat", **new), (204, ""))
+        self.assertEqual(self.places(4 * SMALL + 1, "pat", **new), (507, "full"))
+        self.assertEqual(self.put(data_of(4 * SMALL + 1)), 507)
+        self.assertEqual(json.loads(self.said), {"left": 4000, "why": "full"})
+        self.put_list("/p", READ)
+        self.assertEqual((self.places(4 * SMALL + 1, "bob", **new)[0],
+                          self.put(data_of(4 * SMALL + 1), "bob")), (403, 403))
+        self.assertEqual(json.loads(self.said), {
+            "at": "/p", "bits": "w", "entry": None, "text": None})
+        self.put_list("/p", self.LISTS)
+        self.assertEqual(self.judged.names("p"), [])
+        self.assertEqual(self.put(data_of(4 * SMALL)), 201)
+        # What isn't a number of bytes says nothing.
+        for text in ("", "-1", "4000.5", "\xb2", "9" * 20):
+            with open(self.at("full.left"), "w") as left:
+                left.write(text)
+            self.assertEqual(self.places(5 * SMALL, "pat", "p/e", **new), (204, ""))
+
+    def test_a_denial_is_recorded_once(self) -> None:
+        """As that of a small one: of the document, and by the room."""
+        self.judged.does("alice", "PUT", "/sacl/p", b"list:\nU:fdF:EVERYONE@:w\n")
+        self.put(b"there", path="p/old")
+        self.put_list("/p", READ)
+        found = []
+        for data in (b"small", data_of(4 * SMALL)):
+            self.judged.room.records.clear()
+            self.assertEqual((self.put(data, "ella"), self.put(data, "bob", "p/old", "*")),
+                             (403, 403))
+            found.append(list(self.judged.room.records))
+        self.assertEqual(found[0], found[1])
+        self.assertEqual(len(found[0]), 2)
 
     def test_only_documents_are_large(self) -> None:
         for target in ("/door/dacl/p", "/door/sacl/p", "/door/attr/p", "/door/find/p"):

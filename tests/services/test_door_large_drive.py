@@ -86,6 +86,25 @@ class Drive(Large):
         self.assertEqual(self.dav("PUT", "/p/d", data, "bob", If=f"({token})"), 204)
         self.assertEqual(self.got(), data)
 
+    def test_too_large(self) -> None:
+        """For this room, though nginx let it pass: nothing takes the place of what was locked."""
+        self.assertEqual(self.dav("LOCK", "/p/new", LOCKINFO % "pat"), 201)
+        token = self.fields["Lock-Token"]
+        self.assertEqual(self.dav("PUT", "/p/new", bytes(100 * SMALL + 1), If=f"({token})"), 413)
+        self.assertEqual(self.body, b"a document has at most 100000 bytes\n")
+        self.assertEqual(self.dav("UNLOCK", "/p/new", Lock_Token=token), 204)
+        self.assertEqual(self.parts("p/new"), [])
+        self.assertNotIn("new", self.judged.names("p"))
+
+    def test_more_than_the_room_has_left(self) -> None:
+        with open(self.at("full.left"), "w") as left:
+            left.write("3999")
+        self.assertEqual(self.dav("PUT", "/p/new", self.data), 507)
+        self.assertEqual(self.body, b"the room has place for 3999 bytes\n")
+        self.assertEqual(self.dav("COPY", "/p/d", Destination="/drive/p/new"), 507)
+        self.assertEqual(self.parts("p/new"), [])
+        self.assertEqual(self.dav("MOVE", "/p/d", Destination="/drive/e/d"), 201)
+
     def test_a_lock_before_it_is_there(self) -> None:
         self.assertEqual(self.dav("LOCK", "/p/new", LOCKINFO % "pat"), 201)
         token = self.fields["Lock-Token"]

@@ -20,6 +20,7 @@ from rooms_services.room.answers import Answer, Stop
 from rooms_services.room.large import part
 from rooms_services.room.paths import Names
 from rooms_services.room.room import Room
+from rooms_services.room.space import Space
 
 
 class Night(unittest.TestCase):
@@ -51,7 +52,7 @@ class Night(unittest.TestCase):
     def put(self, name: str, data: bytes) -> None:
         body = io.BytesIO(data)
         replacing.replace(Room(os.path.join(self.folder, name)), Would(""), "alice", ("p", "d"),
-                          replacing.Upload(len(data), body.read, lambda: None),
+                          replacing.Upload(len(data), body.read, Space()),
                           Condition(True, frozenset()))
 
     def look(self, word: str, names: Names, user: str = "bob") -> Answer:

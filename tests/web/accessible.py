@@ -271,7 +271,7 @@ class Accessible:
     def large(self):
         path = f'{self.folder}/too large.txt'
         with open(path, 'wb') as file:
-            file.write(b'x' * 1048577)
+            file.truncate(104857601)
         return path
 
     def tree(self, css):

@@ -6,7 +6,7 @@ from selenium.webdriver.common.keys import Keys
 
 STRANGE = 'a b%2F?#<img src=x onerror=1>'
 HEBREW = '\u05e9\u05dc\u05d5\u05dd "x".txt'
-LIMIT = 1048576
+LIMIT = 104857600
 
 DROP = """
 const transfer = new DataTransfer();
@@ -74,10 +74,11 @@ class Documents:
     def too_large(self):
         alice = self.alice
         alice.reload()
-        path = self.file('large', b'x' * (LIMIT + 1))
+        path = self.file('large', b'')
+        os.truncate(path, LIMIT + 1)
         alice.script("document.querySelector('input[type=file]').hidden = false")
         alice.one('input[type=file]').send_keys(path)
-        alice.says('1,048,576', css='.uploads .bad')
+        alice.says('104,857,600', '(100 MiB)', css='.uploads .bad')
         with open(self.log, encoding='utf-8') as log:
             assert 'letters/large' not in log.read()
 

@@ -92,12 +92,13 @@ class Dropping:
         """Once more by the button, over what is there: one document is over the limit."""
         alice = self.alice
         with open(f'{self.folder}/tender/plan.txt', 'wb') as file:
-            file.write(b'x' * 1048577)
+            file.truncate(104857601)
         alice.open('#/drops/outbox')
         alice.script("document.querySelector('input.whole').hidden = false")
         alice.one('input.whole').send_keys(f'{self.folder}/tender')
         alice.says('There is a document', css='dialog')
         alice.press('The same for all that are there already', 'dialog')
         alice.press('Replace it', 'dialog')
-        alice.says('3 of 4 documents uploaded', 'tender/plan.txt', '1,048,576', css='.uploads .bad')
+        alice.says('3 of 4 documents uploaded', 'tender/plan.txt', '104,857,600',
+                   css='.uploads .bad')
         assert not alice.all('dialog')

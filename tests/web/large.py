@@ -91,6 +91,24 @@ class Large:
         self.bob.says('10,485,760', css='.uploads .bad')
         assert self.puts() == before
 
+    def no_place(self):
+        """What the room has left is less: how much that is stands there, and others still go."""
+        folder = f'{self.folder}/run/rooms-full'
+        os.makedirs(folder, exist_ok=True)
+        with open(f'{folder}/office.left', 'w', encoding='ascii') as left:
+            left.write('2097152\n')
+        bob = self.bob
+        bob.open('#/letters')
+        before = self.puts()
+        bob.script("document.querySelector('input[type=file]').hidden = false")
+        bob.one('input[type=file]').send_keys('\n'.join([
+            self.file('plan.bin', self.first), self.file('note.bin', b'note')]))
+        bob.says('place for 2,097,152 bytes (2 MiB)', css='.uploads .bad')
+        bob.says('note.bin', 'uploaded', css='.uploads .good')
+        assert len(self.puts()) == len(before) + 1
+        os.unlink(f'{folder}/office.left')
+        self.ask('DELETE', '/object/letters/note.bin', user='bob')
+
     def refused_before(self):
         """What belongs to somebody else and is small has no parts: not one byte is sent."""
         self.ask('PUT', '/doc/letters/small.bin', b'small')
@@ -153,7 +171,8 @@ PLAY = [
     ('and downloaded', Large.downloaded),
     ('and replaced by somebody else', Large.replaced),
     ('what is too large isn’t sent', Large.too_large),
-    ('nor what has no place', Large.refused_before),
+    ('nor what the room has no place for', Large.no_place),
+    ('nor what has no parts', Large.refused_before),
     ('an upload is stopped', Large.stopped),
     ('it has one list', Large.shared),
     ('it is renamed', Large.renamed),

@@ -16,7 +16,7 @@ start_room F 1000000 || return
 admin setup
 sets office LARGEST 10
 start_front 'large documents in the page' || return
-start_door office --largest=10
+start_door office
 play 'large documents in the page' large.py "$PWD" "$front" "$PWD/access.log"
 stop_server
 stop_proxy

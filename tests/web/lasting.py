@@ -49,7 +49,8 @@ class Lasting:
         self.ask('POST', '/folder/panel')
         alice.open('#/panel')
         paths = [self.file(f'part {number}.txt', b'x') for number in range(1, 25)]
-        paths.append(self.file('too large.txt', b'x' * 1048577))
+        paths.append(self.file('too large.txt', b''))
+        os.truncate(paths[-1], 104857601)
         alice.script("document.querySelector('input[type=file]').hidden = false")
         alice.one('input[type=file]').send_keys('\n'.join(paths))
         alice.until(lambda: alice.texts('.uploads .count') == ['25 of 25'], 'the count')

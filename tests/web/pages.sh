@@ -22,7 +22,7 @@ python3 -IB "$here/lib/inetd.py" "$PWD/pictures" 4 prlimit --cpu=2 "$repo/deploy
   picture &
 others+=($!)
 until [ -S pictures ]; do sleep 0.02; done
-start_door office --pictures "$PWD/pictures" --largest=20
+start_door office --pictures "$PWD/pictures"
 mkdir pdfs
 python3 -IB "$here/services/pdfs.py" pdfs >/dev/null
 play 'PDFs in the page' pages.py "$PWD" "$front"

@@ -96,6 +96,11 @@ const OF_DOOR = {
 const MOST = (bytes) => `hat mehr als ${number(bytes)} Bytes (${number(bytes / 1048576)} MiB); `
   + 'mehr darf ein Dokument nicht haben. Verkleinern Sie es, oder teilen Sie es auf.';
 
+const LEFT = (bytes) => `Der Raum hat nur noch Platz für ${number(bytes)} Bytes `
+  + `(${number(bytes / 1048576)} MiB), also wurde nichts hinzugefügt. Verkleinern Sie es, oder `
+  + 'entfernen Sie, was niemand mehr braucht; wenn das nicht hilft, '
+  + 'benachrichtigen Sie den Administrator.';
+
 export const DE_FAULTS = {
   ofLists: OF_LISTS,
   ofList: (code) => `Der Raum nimmt das nicht an (${code}).`,
@@ -139,6 +144,7 @@ export const DE_FAULTS = {
   largeAt: (at, bytes) => `Was an ${at} liegen soll, ${MOST(bytes)}`,
   largeThis: (bytes) => `Dieses Dokument ${MOST(bytes)}`,
   largeFile: (bytes) => `Es ${MOST(bytes)}`,
+  leftFor: LEFT,
   twice: 'Der Raum hat zuerst nicht geantwortet, also wurde es vielleicht schon ausgeführt: Sehen '
     + 'Sie nach.',
   noName: 'Geben Sie einen Namen ein.',

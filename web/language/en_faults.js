@@ -83,6 +83,10 @@ const OF_DOOR = {
 const MOST = (bytes) => `has more than ${number(bytes)} bytes (${number(bytes / 1048576)} MiB), `
   + 'which is the most a document may have. Make it smaller, or cut it into parts.';
 
+const LEFT = (bytes) => `The room has place for ${number(bytes)} bytes `
+  + `(${number(bytes / 1048576)} MiB) more, so nothing was added. Make it smaller, or remove what `
+  + 'nobody needs any more; if that doesn’t help, tell the administrator.';
+
 export const EN_FAULTS = {
   ofLists: OF_LISTS,
   ofList: (code) => `The room doesn’t accept this (${code}).`,
@@ -121,6 +125,7 @@ export const EN_FAULTS = {
   largeAt: (at, bytes) => `${at} ${MOST(bytes)}`,
   largeThis: (bytes) => `This ${MOST(bytes)}`,
   largeFile: (bytes) => `It ${MOST(bytes)}`,
+  leftFor: LEFT,
   twice: 'The room didn’t answer at first, so it may have been carried out already: look.',
   noName: 'Type a name.',
   specialName: 'This name has a special meaning. Choose another one.',

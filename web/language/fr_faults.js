@@ -93,6 +93,10 @@ const OF_DOOR = {
 const MOST = (bytes) => `plus de ${number(bytes)} octets (${number(bytes / 1048576)} Mio), le `
   + 'maximum pour un document. Réduisez-le ou découpez-le.';
 
+const LEFT = (bytes) => `La salle n’a plus de place que pour ${number(bytes)} octets `
+  + `(${number(bytes / 1048576)} Mio), donc rien n’a été ajouté. Réduisez-le, ou supprimez ce dont `
+  + 'personne n’a plus besoin ; si cela ne suffit pas, prévenez l’administrateur.';
+
 export const FR_FAULTS = {
   ofLists: OF_LISTS,
   ofList: (code) => `La salle n’accepte pas cela (${code}).`,
@@ -134,6 +138,7 @@ export const FR_FAULTS = {
   largeAt: (at, bytes) => `Ce qui est prévu à ${at} a ${MOST(bytes)}`,
   largeThis: (bytes) => `Ce document a ${MOST(bytes)}`,
   largeFile: (bytes) => `Il a ${MOST(bytes)}`,
+  leftFor: LEFT,
   twice: 'La salle n’a pas répondu d’abord, donc cela a peut-être déjà été exécuté : vérifiez.',
   noName: 'Saisissez un nom.',
   specialName: 'Ce nom a un sens particulier. Choisissez-en un autre.',

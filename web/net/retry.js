@@ -7,9 +7,10 @@ const LONGEST_PAUSE = 2000;
 // The front end has no answer of the room, or there is none at all.
 export const isUnanswered = ({ status }) => status === 0 || status === 502 || status === 504;
 
-// After these faults others would only fail in the same way.
-export const endsAll = (fault) =>
-  isUnanswered(fault) || [401, 429, 503, 507].includes(fault.status);
+// After these faults others would only fail in the same way. (Where a room has place for less than
+// one document has, another one may have its place.)
+export const endsAll = (fault) => isUnanswered(fault) || [401, 429, 503].includes(fault.status)
+  || (fault.status === 507 && fault.body?.left === undefined);
 
 // Whether the same may succeed later, without anybody's doing.
 export const mayHelpAgain = (fault) =>

@@ -154,6 +154,7 @@ function answerWords(fault, ask) {
   if (status === 413) {
     return body?.at ? texts.faults.largeAt(at, mostBytes()) : texts.faults.largeThis(mostBytes());
   }
+  if (status === 507 && Number.isSafeInteger(body?.left)) return texts.faults.leftFor(body.left);
   if (status === 422) return faultWords(body?.why?.split(' ')[1]);
   const word = { 0: 'lost', [UNREADABLE]: 'unreadable' }[status] ?? status;
   return texts.faults.statuses[word] ?? texts.faults.status(status);

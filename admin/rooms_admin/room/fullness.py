@@ -1,5 +1,5 @@
-"""Whether a room has more in use than it may, and the flag by which nginx refuses what adds to
-it."""
+"""Whether a room has more in use than it may, the flag by which nginx refuses what adds to it, and
+how many bytes are left, by which its door refuses a document of more."""
 import os
 import stat
 import time
@@ -21,6 +21,8 @@ class Watch:
         self.used = Reader(room)
         self.lost = False
         self.flag = os.path.join(FOLDER, room.flag)
+        self.left = os.path.join(FOLDER, f"{room.name}.left")
+        self.told: int | None = None
         self.next = 0.0
 
     def look(self) -> None:
@@ -28,7 +30,7 @@ class Watch:
         if (now := needs.stamp(self.room.name)) != self.known:
             self.known, self.limit = now, limits.of(self.room)
         if self.limit is None:
-            _remove(self.flag)
+            self.end()
             self.next = time.monotonic() + 3600
             return
         most = self.limit << 20
@@ -50,6 +52,19 @@ class Watch:
             say(f"the room isn't full any more: {used >> 20} MB of {self.limit} are in use")
         if used * 2 < most:
             self.next += 4
+        self._tell(max(0, most - used))
+
+    def _tell(self, left: int) -> None:
+        """In whole megabytes: so nobody learns by it how large somebody else's document is."""
+        left = left >> 20 << 20
+        if left != self.told:
+            _put_text(self.left, f"{left}\n")
+            self.told = left
+
+    def end(self) -> None:
+        _remove(self.flag)
+        _remove(self.left)
+        self.told = None
 
 
 def _put(place: str) -> bool:
@@ -63,6 +78,15 @@ def _put(place: str) -> bool:
         pass
     os.close(os.open(place, os.O_CREAT | os.O_EXCL | os.O_WRONLY | os.O_NOFOLLOW, 0o644))
     return True
+
+
+def _put_text(place: str, text: str) -> None:
+    new = f"{place}.new"
+    _remove(new)
+    with open(os.open(new, os.O_CREAT | os.O_EXCL | os.O_WRONLY | os.O_NOFOLLOW, 0o644), "w",
+              encoding="ascii") as out:
+        out.write(text)
+    os.rename(new, place)
 
 
 def _remove(place: str) -> bool:
@@ -100,7 +124,7 @@ def watch(rooms: list[settings.Room]) -> int:
     except Interrupted:
         report.ignore_signals()
         for watch in watches:
-            _remove(watch.flag)
+            watch.end()
         return 0
     except OSError as fault:
         raise Stop(f"{fault.filename}: {fault.strerror}") from fault

@@ -276,7 +276,7 @@ ON={on}
 PORT={port}
 
 # How large a document may be, in MB: no more than its machine takes (docs/large.md).
-LARGEST=1
+LARGEST=100
 
 # Who checks its passwords, as with the rooms that are here. If it is empty, it is file. With
 # OWN_PASSWORDS=no only root changes those in the file.

@@ -20,6 +20,7 @@ from .large import replacing, together
 from .search.search import Texts, search
 from ..room.paths import Names, chosen_in, names_in, names_of_move
 from ..room.room import Room
+from ..room.space import Space
 
 PREFIX = "/door/"
 # What may take long, each with its kind.
@@ -52,9 +53,9 @@ class Asked:
     pictures: str
     # In the place of the body, where that is more than a document of the room may have.
     upload: replacing.Upload | None
-    # How many bytes a document may have; and ends the request if the room is full.
+    # How many bytes a document may have, and how many more the room takes.
     largest: int
-    refuse_full: Callable[[], None]
+    space: Space
 
     @property
     def dates(self) -> Keeper | None:
@@ -135,7 +136,7 @@ def _prepare(asked: Asked) -> Answer:
     if not LARGEST < int(query) <= asked.largest:
         raise Stop(413, "too-large", f"a document has at most {asked.largest} bytes")
     return replacing.prepare(asked.room, asked.would, asked.user, asked.names, int(query),
-                             condition_of(*asked.conditions()), asked.refuse_full)
+                             condition_of(*asked.conditions()), asked.space)
 
 
 def _remove(asked: Asked) -> Answer:

@@ -22,6 +22,7 @@ from rooms_admin.room.in_parts import LARGEST
 from .. import listening
 from ..room.answers import TEXT, Answer, Stop, reason
 from ..room.room import USER, Room
+from ..room.space import Space
 from .routes import LONG_ROUTES, PREFIX, Asked, route_of
 from ..room.turns import Users
 from .changes.keeper import Keeper
@@ -57,7 +58,7 @@ class Door:
         self.pictures = pictures
         self.largest = max(largest, LARGEST)
         self.users = Users()
-        self._full = full
+        self.space = Space(full)
 
     def is_drive(self, target: str) -> bool:
         return self.drive is not None and target.startswith("/drive") and target[6:7] in ("", "/")
@@ -72,18 +73,16 @@ class Door:
             return method in ("PUT", "MKCOL", "COPY", "LOCK")
         return self.is_document(method, target) or target.startswith(f"{PREFIX}places/")
 
-    def refuse_full(self) -> None:
-        if self._full and os.path.lexists(self._full):
-            raise Stop(507, "full", "the room is full")
-
 
 class Handler(http.server.BaseHTTPRequestHandler):
     protocol_version = "HTTP/1.1"
     timeout = SECONDS
     door: Door
     server: "Server"
-    # How many bytes of the body nobody has read yet.
+    # How many bytes of the body nobody has read yet; and whether nobody will, since they are too
+    # many.
     left = 0
+    is_too_large = False
 
     def handle(self) -> None:
         """A connection for each request, as nginx has them, or for one after the other."""
@@ -105,6 +104,8 @@ class Handler(http.server.BaseHTTPRequestHandler):
 
     def _field(self, name: str) -> str:
         """The value of a field that may stand once. Two would be read in two ways."""
+        if name == "Room-Too-Large" and self.is_too_large:
+            return "1"
         values: list[str] = self.headers.get_all(name, [])
         if len(values) > 1:
             raise Stop(400, "bad-field", f"a field stands twice: {name}")
@@ -139,8 +140,13 @@ class Handler(http.server.BaseHTTPRequestHandler):
         most = self.door.largest if self.door.is_document(self.command, self.path) else LARGEST
         if len(text) > 12 or int(text) > most:
             self.left = int(text) if len(text) <= 12 else 0
+            if self.door.is_drive(self.path):
+                # As nginx says it of what is too large for any room.
+                self.is_too_large = self.close_connection = True
+                return 0
             raise Stop(413, "too-large", f"a document has at most {most} bytes")
-        return int(text)
+        self.left = int(text)
+        return self.left
 
     def _taken(self, length: int) -> bytes:
         """The next bytes of the body."""
@@ -160,15 +166,15 @@ class Handler(http.server.BaseHTTPRequestHandler):
 
     def _answer(self) -> None:
         """A body is read once it is the user's turn, so that no user fills the memory by it."""
-        self.left = 0
+        self.left, self.is_too_large = 0, False
         try:
-            self.left = length = self._length()
+            length = self._length()
             user = self._user()
             self._refuse_others()
             with self.door.users.turn(user, self._kind(length)):
                 # nginx looked when it came, which may be minutes ago.
                 if self.door.adds(self.command, self.path):
-                    self.door.refuse_full()
+                    self.door.space.refuse_full()
                 answer = self._done(user, length)
                 self._drop_rest()
                 if answer.length is None or self.command == "HEAD":
@@ -193,7 +199,7 @@ class Handler(http.server.BaseHTTPRequestHandler):
     def _done(self, user: str, length: int) -> Answer:
         drive = self.door.drive if self.door.is_drive(self.path) else None
         try:
-            upload = Upload(length, self._taken, self.door.refuse_full) \
+            upload = Upload(length, self._taken, self.door.space) \
                 if length > LARGEST else None
             body = b"" if upload else self._taken(length)
             if drive:
@@ -206,7 +212,7 @@ class Handler(http.server.BaseHTTPRequestHandler):
             return route(Asked(self.door.room, user, self.command, word, names, query,
                                self._field, body, self.door.keeper, self.door.texts,
                                self.door.would, self.door.pictures, upload,
-                               self.door.largest, self.door.refuse_full))
+                               self.door.largest, self.door.space))
         except Stop as stop:
             return stop.answer(drive is not None)
         except OSError:
@@ -335,7 +341,7 @@ def serve(room: str, listen: str, would: str, locks: str, full: str,
           largest: int = LARGEST, has_port: bool = False) -> None:
     """Without a file of locks there is no drive. Whoever asks at a port of the room changes it
     without a word to the door."""
-    drive = Drive(Kept(locks), full, None if has_port else keeper) if locks else None
+    drive = Drive(Kept(locks), full, None if has_port else keeper, largest) if locks else None
     asked = Room(room, note=keeper.note if keeper else None)
     with opened(listen, Door(asked, Would(would), drive, full, keeper, texts, pictures,
                              largest)) as server:

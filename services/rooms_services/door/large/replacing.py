@@ -18,6 +18,7 @@ from ...room.large import Asks
 from ...room.parts import Parts
 from ...room.paths import Names, shown
 from ...room.room import Ask, Reply, Room, Talk, about
+from ...room.space import Space
 from ...room.tags import tag_of
 from ..folders.matched import Condition, against, told
 from ..folders.would import Would
@@ -32,12 +33,11 @@ ALIKE = ("dacl", "sacl", "attr")
 class Upload:
     """The body of a request, taken piece by piece."""
 
-    def __init__(self, size: int, take: Callable[[int], bytes],
-                 refuse_full: Callable[[], None]) -> None:
+    def __init__(self, size: int, take: Callable[[int], bytes], space: Space) -> None:
         """The room may be full before all of it is there."""
         self.size = size
+        self.space = space
         self._take = take
-        self._refuse_full = refuse_full
         self._sum = in_parts.Sum()
 
     @property
@@ -47,7 +47,7 @@ class Upload:
     def pieces(self) -> Iterator[bytes]:
         for index in range(in_parts.count_for(self.size)):
             piece = self._take(min(LARGEST, self.size - index * LARGEST))
-            self._refuse_full()
+            self.space.refuse_full()
             yield self._sum.add(piece)
 
 
@@ -61,9 +61,9 @@ def refused(reply: Reply, names: Names, number: int) -> Stop:
 class Copied(Upload):
     """Another document of the room."""
 
-    def __init__(self, parts: Parts, refuse_full: Callable[[], None]) -> None:
+    def __init__(self, parts: Parts, space: Space) -> None:
         some = iter(parts)
-        super().__init__(parts.manifest.size, lambda _: next(some), refuse_full)
+        super().__init__(parts.manifest.size, lambda _: next(some), space)
 
 
 class Writing:
@@ -102,20 +102,28 @@ class Writing:
 
     def _prepared(self) -> Answer:
         """Before any byte is sent: what stands against it."""
-        before, old, count = self._seen()
-        asked = self.names if before else self.names[:-1]
-        may = self._ask(about("GET", "can", asked, "w"))
-        if may.status != 200:
-            return may.answer()
-        if not may.rulings().get("w"):
-            raise Stop(403, "denied", at=shown(asked), more={
-                "bits": "w", "entry": None, "text": None})
+        before, old, count = self._allowed()
         if before:
             self._free(old, count)
         return Answer(204)
 
-    def _all(self) -> Answer:
+    def _allowed(self) -> tuple[Reply | None, Manifest | None, int]:
+        """What was seen, unless the caller may not write it, or the room lacks the place: how much
+        is left is told to nobody else."""
         before, old, count = self._seen()
+        asked = self.names if before else self.names[:-1]
+        with self.room.talk(self.user) as talk:
+            may = talk.ask(about("GET", "can", asked, "w"))
+            if may.status == 200 and not may.rulings().get("w"):
+                # The room's own denial, which is recorded as that of any document.
+                may = talk.ask(about("PUT", "doc", self.names, body=before.body if before else b""))
+            if may.status != 200:
+                raise Against(may.answer())
+        self.upload.space.refuse(self.upload.size)
+        return before, old, count
+
+    def _all(self) -> Answer:
+        before, old, count = self._allowed()
         now = self._over(self._free(old, count)) if before else self._new()
         reply = self._named(now)
         empty(self._ask, self.names, old.numbers if old else ())
@@ -313,8 +321,8 @@ def replace(room: Room, would: Would, user: str, names: Names, body: "bytes | Up
 
 
 def prepare(room: Room, would: Would, user: str, names: Names, size: int, condition: Condition,
-            refuse_full: Callable[[], None]) -> Answer:
-    upload = Upload(size, lambda _: b"", refuse_full)
+            space: Space) -> Answer:
+    upload = Upload(size, lambda _: b"", space)
     with HELD.alone(names), told(would, "doc"):
         return Writing(room, user, names, upload, _look(names, condition)).prepared()
 

@@ -1,5 +1,4 @@
 """A request by WebDAV, and what stands before each change: conditions and locks."""
-import os
 from collections.abc import Callable, Iterable, Iterator
 from contextlib import contextmanager
 
@@ -9,6 +8,7 @@ from . import objects, trees
 from ...room.answers import Stop
 from ...room.paths import Names, shown
 from ...room.room import Ask, Reply, Room, Talk, about, rows
+from ...room.space import Space
 from ...room.tags import names_tag
 from ..changes.keeper import Keeper
 from ..large.replacing import Upload
@@ -85,13 +85,15 @@ def asks_for(room: Room, user: str) -> Call:
 class Drive:
     """What only this door knows: locks, and when it saw which bytes."""
 
-    def __init__(self, kept: Kept, full: str = "", keeper: Keeper | None = None) -> None:
+    def __init__(self, kept: Kept, full: str = "", keeper: Keeper | None = None,
+                 largest: int = LARGEST) -> None:
         """`full` is the path of a file that is there while the room takes no more; `keeper` is told
-        of each change, where there is one."""
+        of each change, where there is one; `largest` is how many bytes a document may have."""
+        self.largest = max(largest, LARGEST)
         self.keeper = keeper
         self.locks = Locks(kept)
         self.tasks = Tasks(kept)
-        self._full = full
+        self.space = Space(full)
         self.dates = Dates()
 
     def look(self, call: Call, names: Names, with_bytes: bool = False,
@@ -120,10 +122,6 @@ class Drive:
         lock.pending = False
         self.locks.keep(lock)
 
-    def refuse_full(self) -> None:
-        if self._full and os.path.lexists(self._full):
-            raise Stop(507, "full", "the room is full")
-
     def spending(self) -> Spend:
         """A copy is many documents in one request, and the room may be full after a few."""
         left = MOST_COPIED
@@ -134,7 +132,7 @@ class Drive:
             if left < 0:
                 raise Stop(413, "too-large",
                            f"more than {MOST_COPIED >> 20} MiB: copy it in parts")
-            self.refuse_full()
+            self.space.refuse_full()
         return spend
 
     def destination(self, call: Call) -> Names:

@@ -30,7 +30,7 @@ def answer(drive: Drive, room: Room, user: str, method: str, target: str, above:
         raise Stop(405, "no-method", "no such method", fields={"Allow": looking.ALLOWED})
     if method != "PUT" and field("Room-Too-Large"):
         # nginx hasn't taken the body: without it the request would say something else.
-        raise too_large()
+        raise too_large(drive.largest)
     if method in BODILESS and body:
         raise Stop(415, "bad-body", f"{method} has no body")
     names, slash = names_of(target, ROUTE)

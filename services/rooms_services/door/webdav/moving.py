@@ -158,7 +158,7 @@ def _move_parts_over(drive: Drive, call: Call, to: Names, manifest: Manifest) ->
 def _copy_parts(drive: Drive, call: Call, to: Names, manifest: Manifest) -> Answer:
     drive.spending()(manifest.size)
     return replacing.write(call.room, call.user, to, replacing.Copied(
-        Parts(call.room, call.user, call.names, manifest), drive.refuse_full))
+        Parts(call.room, call.user, call.names, manifest), drive.space))
 
 
 def _refuse_parts(call: Call, *places: Names) -> None:

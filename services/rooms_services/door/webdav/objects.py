@@ -77,12 +77,12 @@ def stop_of(reply: Reply, changed: dict[int, int] | None = None) -> Stop:
     """The room's own status, unless WebDAV has another one for it here."""
     status = (changed or {}).get(reply.status, reply.status)
     if status == 413:
-        return too_large()
+        return too_large(LARGEST)
     return Stop(status, reply.why or "denied", reply.text())
 
 
-def too_large() -> Stop:
-    return Stop(413, "too-large", f"a document has at most {LARGEST} bytes")
+def too_large(most: int) -> Stop:
+    return Stop(413, "too-large", f"a document has at most {most} bytes")
 
 
 def children_of(reply: Reply, most: int) -> list[Child]:

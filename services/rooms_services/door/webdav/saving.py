@@ -45,8 +45,8 @@ def _is_about_bytes(call: Call) -> bool:
 
 def _guard_put(drive: Drive, call: Call) -> None:
     if call.field("Room-Too-Large"):
-        # nginx hasn't taken the body, and says so here, since a lock may wait for it.
-        raise too_large()
+        # nobody has taken the body, and this is said here, since a lock may wait for it.
+        raise too_large(drive.largest)
     if call.slash:
         raise Stop(405, "wrong-kind", "a document has no slash at its end")
     if call.field("Content-Range"):
