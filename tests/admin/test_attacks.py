@@ -220,10 +220,42 @@ def endless(wait: int) -> Directory:
     ldap = types.SimpleNamespace(
         controls=types.SimpleNamespace(SimplePagedResultsControl=lambda *_a, **_b: _Cookie()),
         SCOPE_SUBTREE=2, SCOPE_BASE=0, LDAPError=_Error, TIMEOUT=type("T", (_Error,), {}),
-        TIMELIMIT_EXCEEDED=type("L", (_Error,), {}), NO_SUCH_OBJECT=type("N", (_Error,), {}))
-    made.__dict__.update(_ldap=ldap, _link=_Endless(), _bound=False, where=types.SimpleNamespace(
-        wait=wait, secret="", bind="", needs_starttls=False))
+        TIMELIMIT_EXCEEDED=type("L", (_Error,), {}), NO_SUCH_OBJECT=type("N", (_Error,), {}),
+        OPT_REFERRALS=0, OPT_NETWORK_TIMEOUT=0, OPT_TIMEOUT=0, OPT_X_TLS_REQUIRE_CERT=0,
+        OPT_X_TLS_DEMAND=0, OPT_X_TLS_NEWCTX=0, initialize=lambda _uri: _Endless())
+    where = types.SimpleNamespace(wait=wait, secret="", bind="", needs_starttls=False, uri="",
+                                  ca="")
+    made.__dict__.update(_ldap=ldap, _asks=None, where=where)
     return made
+
+
+class Apart(unittest.TestCase):
+    """What asks another machine, which may hang or answer without end."""
+
+    def test_answers(self) -> None:
+        asked = waiting.Apart(lambda one: [one, os.getpid()], 64 << 20)
+        for one in ("a", [1, None], "\n"):
+            found, process = asked.ask(one, 5)
+            self.assertEqual(found, one)
+            self.assertNotEqual(process, os.getpid())
+        asked.end()
+
+    def test_has_nothing_of_whoever_asks(self) -> None:
+        with tempfile.TemporaryFile() as held:
+            asked = waiting.Apart(lambda one: os.path.lexists(f"/proc/self/fd/{one}"), 64 << 20)
+            self.assertEqual([asked.ask(one, 5) for one in (1, held.fileno())], [True, False])
+            asked.end()
+
+    def test_ends(self) -> None:
+        def eats(one: object) -> object:
+            return len(bytearray(one)) if isinstance(one, int) else "x" * (60 << 20)
+        for work, asks, how in ((lambda _: time.sleep(99), 0, "no answer within 1 s"),
+                                (lambda _: os.kill(os.getpid(), signal.SIGSTOP), 0, "no answer"),
+                                (lambda _: os._exit(3), 0, "64 MB"), (eats, 1 << 30, "64 MB"),
+                                (eats, 100 << 20, "64 MB"), (eats, "", "64 MB")):
+            asked = waiting.Apart(work, 64 << 20)
+            with self.assertRaisesRegex(Stop, how):
+                asked.ask(asks, 1)
 
 
 class Says(unittest.TestCase):
