@@ -30,7 +30,7 @@ find "$services"/rooms_services/{texts,door/search} -name '*.py' -exec wc -l {} 
 same 'no file has 500 lines' found /dev/null
 has pdftotext || skip 'texts of PDF' 'pdftotext is missing'
 has tesseract || skip 'texts of scans' 'tesseract is missing'
-for suite in test_texts test_store test_search; do
+for suite in test_texts test_store test_search test_search_large; do
   (cd "$here/services" &&
     PYTHONPATH=$services:$repo/admin python3 -B -m unittest "$suite") >"$work/out" 2>&1
   status=$?

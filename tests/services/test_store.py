@@ -108,7 +108,7 @@ class Stores(Based):
 
     def test_with_another_reader_all_is_read_anew(self) -> None:
         self.night(5, {"/one": b"text", "/bad": b"!"})
-        with mock.patch.object(night, "VERSION", 2):
+        with mock.patch.object(night, "VERSION", 99):
             self.night(6, {"/one": b"text", "/bad": b"!"})
         self.assertEqual(sorted(self.read), [b"!", b"text"])
 

@@ -18,8 +18,9 @@ from .packages import package
 from .sink import Closed, Full, Sink, State
 
 # Of what it says: with another version all documents are read anew in the next night.
-VERSION = 1
-LARGEST = 1_048_576
+VERSION = 2
+# How many bytes a document may have, and of how many a plain text is taken.
+LARGEST, PLAIN = 33_554_432, 4_194_304
 # Mails in mails.
 DEEP = 2
 _OLD_OFFICE = bytes.fromhex("d0cf11e0a1b11ae1")
@@ -69,7 +70,7 @@ def _read(data: bytes, sink: Sink, deep: int = DEEP, kind: str = "") -> State:
         return web_page(data, sink)
     if is_mail(data):
         return mail(data, sink, lambda inside, kind: _attached(inside, sink, deep, kind))
-    return plain_text(data, sink)
+    return plain_text(data[:PLAIN], sink)
 
 
 def _attached(data: bytes, sink: Sink, deep: int, kind: str) -> None:
@@ -100,7 +101,7 @@ def run() -> int:
     sys.stdout.buffer.write(READY)
     sys.stdout.buffer.flush()
     data = sys.stdin.buffer.read(LARGEST + 1)
-    state, text = read(data) if len(data) <= LARGEST else (State.CUT, "")
+    state, text = read(data) if len(data) <= LARGEST else (State.LARGE, "")
     sys.stdout.buffer.write(f"{state.value}\n{text}".encode("utf-8", "replace"))
     sys.stdout.buffer.flush()
     # What it has started goes with its unit.

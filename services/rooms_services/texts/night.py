@@ -15,14 +15,17 @@ import time
 from collections import Counter, deque
 from collections.abc import Callable, Iterator
 from concurrent.futures import Future, ThreadPoolExecutor
+from functools import partial
+from itertools import groupby
 from typing import NamedTuple
 
 from rooms_admin.backup import objects_of_copy
 from rooms_admin.cli import signs
-from rooms_admin.room import names
+from rooms_admin.room import in_parts, names
+from rooms_admin.room.in_parts import Manifest
 
 from . import feed, nights, scan
-from .extract import VERSION
+from .extract import LARGEST, VERSION
 from .folding import folded, plain
 from .sink import State
 from .store import Making, sum_of
@@ -48,9 +51,17 @@ class NobodyReads(Exception):
 
 
 class Document(NamedTuple):
+    """`data` is what the room keeps under its name, which is a list of parts where it has some."""
     number: int
     path: str
     data: bytes
+    manifest: Manifest | None
+    # All of it, as long as the copy is open; ValueError if parts lack, or were changed.
+    whole: Callable[[], bytes]
+
+    @property
+    def is_too_large(self) -> bool:
+        return self.manifest is not None and self.manifest.size > LARGEST
 
 
 def documents(file: str) -> Iterator[Document]:
@@ -59,11 +70,32 @@ def documents(file: str) -> Iterator[Document]:
         # What the file says of its own tables runs no function of SQLite's.
         room.execute("PRAGMA trusted_schema = OFF")
         above: dict[int, tuple[int, str]] = {}
-        for number, up, name, is_folder in objects_of_copy.objects(room):
-            if is_folder:
-                above[number] = up, name
-            else:
-                yield Document(number, _path(above, up, name), objects_of_copy.body(room, number))
+        # (a folder's own come together)
+        for up, some in groupby(objects_of_copy.objects(room), lambda one: one[1]):
+            row = list(some)
+            numbers = {name: number for number, _, name, is_folder in row if not is_folder}
+            parts = in_parts.hidden(numbers)
+            for number, _, name, is_folder in row:
+                if is_folder:
+                    above[number] = up, name
+                elif name not in parts:
+                    data = objects_of_copy.body(room, number)
+                    manifest = in_parts.read(data)
+                    yield Document(number, _path(above, up, name), data, manifest,
+                                   partial(_whole, room, data, manifest, name, numbers))
+
+
+def _whole(room: sqlite3.Connection, data: bytes, manifest: Manifest | None, name: str,
+           numbers: dict[str, int]) -> bytes:
+    if manifest is None:
+        return data
+    whole = bytearray()
+    for index, (number, _) in enumerate(manifest.parts):
+        part = objects_of_copy.body(room, numbers.get(name + in_parts.end_of(number), -1))
+        if not manifest.is_part(index, part):
+            raise ValueError("a part is missing or was changed")
+        whole += part
+    return whole
 
 
 def _path(above: dict[int, tuple[int, str]], up: int, name: str) -> str:
@@ -109,10 +141,10 @@ class Night:
         try:
             with ThreadPoolExecutor(AT_ONCE) as pool:
                 before = last.by_sum() if last and last.reader == VERSION else {}
-                for number, path, data in documents(file):
-                    total = sum_of(data)
-                    making.note(number, total)
-                    self._sums.append((path, total))
+                for one in documents(file):
+                    total = sum_of(one.data)
+                    making.note(one.number, total)
+                    self._sums.append((one.path, total))
                     if making.has(total):
                         continue
                     there = before.get(total)
@@ -121,14 +153,29 @@ class Night:
                         continue
                     # (its place is taken; the text comes behind it)
                     making.put(total, State.LATER, b"")
-                    self._waits.append((total, pool.submit(self._text, data)))
-                    self._settle(making, WAITING)
+                    self._have_read(making, pool, total, one)
                 self._settle(making, 0)
             self._have_scans_read(making, file)
             making.end({"at": at, "night": night})
         finally:
             making.close()
         return self._keep(making, at)
+
+    def _have_read(self, making: Making, pool: ThreadPoolExecutor, total: bytes, one: Document
+                   ) -> None:
+        """A large one alone, so that no two are in memory."""
+        if one.is_too_large:
+            making.put(total, State.LARGE, b"")
+            return
+        if one.manifest:
+            self._settle(making, 0)
+        try:
+            data = one.whole()
+        except ValueError:
+            making.put(total, State.BROKEN, b"")
+            return
+        self._waits.append((total, pool.submit(self._text, data)))
+        self._settle(making, 0 if one.manifest else WAITING)
 
     def _settle(self, making: Making, most: int) -> None:
         while len(self._waits) > most:
@@ -144,9 +191,15 @@ class Night:
     def _have_scans_read(self, making: Making, file: str) -> None:
         """One after the other. Those of which it isn't the turn are scans in the next night too."""
         until = time.monotonic() + self._scans
-        for _, _, data in documents(file) if self._scans else ():
-            total = sum_of(data)
-            if making.state(total) is not State.NONE or not scan.is_scan(data):
+        for one in documents(file) if self._scans else ():
+            total = sum_of(one.data)
+            if making.state(total) is not State.NONE:
+                continue
+            try:
+                data = one.whole()
+            except ValueError:
+                continue
+            if not scan.is_scan(data):
                 continue
             if time.monotonic() > until:
                 return

@@ -23,6 +23,8 @@ class State(Enum):
     LACKS = "lacks"
     # It wasn't its turn yet.
     LATER = "later"
+    # It has more bytes than are read.
+    LARGE = "large"
 
     @property
     def may_change(self) -> bool:

@@ -3,6 +3,7 @@ read as the caller, and recorded as that; a process that has nothing else makes 
 (`apart`), and what it answers is believed to be one picture and a number."""
 from ... import apart, picture
 from ...room.answers import Answer, Stop
+from ...room.parts import joined
 from ...room.paths import Names
 from ...room.room import Room
 from .matched import SAFE, Wanted, read
@@ -48,7 +49,7 @@ def page(room: Room, would: Would, user: str, names: Names, query: str, match: s
     if (seen.length or 0) > picture.DOCUMENT:
         return Answer(204)
     # (one in parts has no body)
-    document = seen.body or b"".join(seen.parts or ())
+    document = seen.body or joined(seen.parts or ())
     if _BEGINS not in document[:_WITHIN]:
         raise Stop(415, "no-pdf", "it is no PDF")
     try:

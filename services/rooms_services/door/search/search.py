@@ -13,10 +13,14 @@ from collections.abc import Iterator
 from dataclasses import dataclass, field
 
 from rooms_admin.room import in_parts
+from rooms_admin.room.in_parts import Manifest
 
+from ...room import large
 from ...room.answers import Answer, Stop, told
+from ...room.parts import Parts, joined
 from ...room.paths import Names
-from ...room.room import Ask, Reply, Room
+from ...room.room import Ask, Reply, Room, about
+from ...texts.extract import LARGEST
 from ...texts.folding import words_of
 from ...texts.sink import State
 from ...texts.store import sum_of
@@ -43,7 +47,7 @@ class Texts:
     reading: Reading
 
 
-@dataclass
+@dataclass(eq=False)
 class Hit:
     node: Node
     count: int
@@ -68,8 +72,6 @@ class Search:
         self.can_document = Step("can", "r", self._document)
         self.list = Step("folder", "", self._children)
         self.unread = self.without = 0
-        # Those in parts, whose texts nobody reads.
-        self.in_parts = 0
         # In milliseconds, before the room was asked.
         self.began = int(time.time() * 1000)
 
@@ -88,10 +90,7 @@ class Search:
 
     def _document(self, node: Node, reply: Reply) -> None:
         if reply.rulings().get("r"):
-            if node.has_parts:
-                self.in_parts += 1
-            else:
-                self.readable.append(node)
+            self.readable.append(node)
 
     # What is in it
 
@@ -116,8 +115,7 @@ class Search:
         is_all = is_all and is_whole and not self.unread
         refuse_long(hit.node for hit in shown)
         return told({"all": is_all, "at": top.path, "found": [hit.told() for hit in shown],
-                     "night": found.night, "unread": self.unread,
-                     "without": self.without + self.in_parts})
+                     "night": found.night, "unread": self.unread, "without": self.without})
 
     def _vouched(self) -> int:
         """The moment of the night's copy, if all changes since then are known."""
@@ -159,8 +157,8 @@ class Search:
         hits = [Hit(known[number], count, number) for number, count in found.counts.items()
                 if count > 0]
         changed = self.readable + [known[number] for number in sorted(found.unknown)]
-        bodies = list(self._bodies(changed[:READ]))
-        self.unread = len(changed) - len(bodies)
+        bodies = [(node, body) for node, body in self._wholes(changed[:READ])]
+        self.unread += len(changed) - len(bodies)
         for (node, _), read in zip(bodies, self._read([body for _, body in bodies],
                                                       CHANGED_SECONDS), strict=True):
             if read.places:
@@ -188,6 +186,26 @@ class Search:
             if size > READ_BYTES:
                 return
 
+    def _wholes(self, nodes: list[Node]) -> Iterator[tuple[Node, bytes]]:
+        """The same, with all of one in parts, as long as that fits."""
+        left = READ_BYTES
+        for node, body in self._bodies(nodes):
+            manifest = in_parts.read(body)
+            if manifest and manifest.size > left:
+                continue
+            left -= len(body := self._whole(node, manifest) if manifest else body)
+            yield node, body
+
+    def _whole(self, node: Node, manifest: Manifest) -> bytes:
+        """What nobody can read now has no text."""
+        try:
+            return joined(Parts(self.room, self.user, _names(node), manifest))
+        except Stop as stop:
+            if stop.why != "not-whole":
+                raise
+            self.without += 1
+            return b""
+
     def _shown(self, hits: list[Hit], asking: Asking) -> tuple[list[Hit], bool]:
         """The first ones, each read now; and whether there are no others."""
         first = hits[:SHOWN]
@@ -195,19 +213,37 @@ class Search:
         sums = dict(zip((hit.node for hit in of_night), asking.sums(
             [hit.number for hit in of_night if hit.number is not None])))
         bodies = dict(self._bodies([hit.node for hit in of_night]))
-        again = [hit for at, hit in enumerate(first) if hit.node in bodies and (
-            at < WITH_TEXT or sum_of(bodies[hit.node]) != sums[hit.node])]
+        is_same = {node: sum_of(body) == sums[node] for node, body in bodies.items()}
+        manifests = {hit: found for hit in of_night
+                     if (found := in_parts.read(bodies.get(hit.node, b"")))}
+        for hit, manifest in manifests.items():
+            self._look_at_parts(hit, manifest, is_same[hit.node])
+        again = [hit for at, hit in enumerate(first)
+                 if hit.node in bodies and hit not in manifests
+                 and (at < WITH_TEXT or not is_same[hit.node])]
         for hit, read in zip(again, self.texts.reading.each(
                 [bodies[hit.node] for hit in again], self.words, SHOWN_SECONDS), strict=True):
-            is_same = sum_of(bodies[hit.node]) == sums[hit.node]
             # (by day nobody reads a scan)
-            if not is_same or read.state not in (State.LATER, State.LATE, State.NONE):
+            if not is_same[hit.node] or read.state not in (State.LATER, State.LATE, State.NONE):
                 hit.count, hit.shown = read.places, read.shown
                 self.unread += read.state is State.LATER
         shown = [hit for hit in first if hit.count and (
             hit.number is None or hit.node in bodies)]
         return (sorted(shown, key=lambda hit: (-hit.count, hit.node.path)),
                 len(hits) <= SHOWN and len(bodies) == len(of_night))
+
+    def _look_at_parts(self, hit: Hit, manifest: Manifest, is_same: bool) -> None:
+        """Its list of parts says that it is still the same; all of it isn't read for that. It has
+        no text for who may not read a part."""
+        names = _names(hit.node)
+        may = self.room.ask_each(self.user, (
+            about("GET", "can", large.part(names, number), "r") for number, _ in manifest.parts))
+        if not is_same:
+            hit.count = 0
+            self.unread += 1
+        elif not all(one.rulings().get("r") for one in may):
+            hit.count = 0
+            self.without += 1
 
     # One document
 
@@ -217,11 +253,19 @@ class Search:
         self.walk.note(reply)
         if reply.status != 200:
             return reply.answer()
-        body = b"" if in_parts.read(reply.body) else reply.body
+        manifest = in_parts.read(reply.body)
+        if manifest and manifest.size > LARGEST:
+            return told({"all": True, "at": _node(names).path, "found": [], "night": None,
+                         "unread": 0, "without": 1})
+        body = self._whole(_node(names), manifest) if manifest else reply.body
         read, = self._read([body], SHOWN_SECONDS)
         found = [Hit(_node(names), read.places, shown=read.shown).told()] if read.places else []
         return told({"all": not self.unread, "at": _node(names).path, "found": found,
                      "night": None, "unread": self.unread, "without": self.without})
+
+
+def _names(node: Node) -> Names:
+    return tuple(node.path.split("/")[1:])
 
 
 def _node(names: Names) -> Node:
