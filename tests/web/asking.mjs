@@ -102,7 +102,6 @@ function seen(model, closed, unowned) {
     unowned.includes(one.path) ? { ...one, object: { owner: null, group: null } } : one));
   return { objects: [...objects, ...objects.filter(({ kind, path }) =>
     kind === 'folder' && !path.includes('\u0000')).flatMap(question.imaginedIn)],
-  lists: objects.map(({ list }) => list).filter((list) => list !== null),
   unsaid: nodes.filter(({ count }) => count === 0).map(({ path }) => path) };
 }
 
@@ -164,12 +163,12 @@ async function tryOne(number) {
   const paths = [...model.objects.keys()].slice(1);
   const closed = chance(20) ? [pick(paths)] : [];
   const unowned = chance(20) ? paths.filter(() => chance(30)) : [];
-  const { objects, lists: read, unsaid } = seen(model, closed, unowned);
+  const { objects, unsaid } = seen(model, closed, unowned);
   const named = new Set(objects.map(({ path }) => path));
   const { change, lists: more, then } = changeAtRandom(model, named);
   const isKnown = number % 2 === 0;
-  const said = await foresee({ objects, changes: [change], lists: [...read, ...more],
-    known: isKnown ? KNOWN : null, me: 'alice' });
+  const said = await foresee({ objects, changes: [change], known: isKnown ? KNOWN : null,
+    me: 'alice' });
   const before = model.copy();
   const isUnowned = said.callers.some(({ owns }) => owns);
   for (const path of unowned.filter((one) => named.has(one))) {

@@ -6,7 +6,7 @@ import { pathToFileURL } from 'node:url';
 
 const [page] = process.argv.slice(2);
 const module = (name) => import(`${pathToFileURL(resolve(page)).href}/${name}`);
-const [{ partiesFor, isPartOf, isPerhaps, namesIn }, { levelOf }, { readListText }, { foresee },
+const [{ partiesFor, namesIn, toTell }, { levelOf }, { printList, readListText }, { foresee },
   { markFor, questionOf }] = await Promise.all(
   ['callers.js', 'answer.js', 'entries.js', 'would.js', 'question.js'].map(module));
 
@@ -57,11 +57,18 @@ same('not more than is asked for',
   partiesFor(named(['u'], ['a', 'b']), null, '', 1).sets.length, 4);
 same('nobody has the name of a set', partiesFor(named(['+0', 'bob'], ['a']), null).sets[0].label,
   '++0');
-const [a, ab, bobA, bob] = [{ user: null, groups: ['a'] }, { user: null, groups: ['a', 'b'] },
-  { user: 'bob', groups: ['a'] }, { user: 'bob', groups: [] }];
-same('parts', [[a, ab], [a, bobA], [bob, bobA], [ab, bobA], [bobA, a]].map(([one, whole]) =>
-  isPartOf(one, whole)), [true, true, true, false, false]);
-same('perhaps', [a, ab, bobA, bob].map(isPerhaps), [false, true, true, false]);
+// A set is told of where more is said of it than of its parts.
+const { all } = partiesFor(named(['bob'], ['a', 'b']), null);
+const who = ({ user, groups }) => [user, ...groups].filter(Boolean).join('+') || '*';
+const toldOf = (said) => toTell(all.map((caller) => (
+  { caller, says: new Set(said[who(caller)] ?? []) })).filter(({ says }) => says.size > 0))
+  .map(({ caller }) => who(caller));
+same('what a group gains', toldOf({ a: 'r', 'a+b': 'r', 'bob+a': 'r', 'bob+a+b': 'r' }), ['a']);
+same('what two together gain', toldOf({ a: 'r', 'a+b': 'rw', 'bob+a': 'r', 'bob+a+b': 'rw' }),
+  ['a', 'a+b']);
+same('what one gains in a group', toldOf({ 'bob+a': 'r', 'bob+a+b': 'r' }), ['bob+a']);
+same('what is added up', toldOf({ a: 'r', b: 'w', bob: 'd', 'a+b': 'rw', 'bob+a+b': 'rwd' }),
+  ['bob', 'a', 'b']);
 
 // Levels, by the row of an object and that of a document of somebody else in it.
 const LEVELS = [['rwaxDtcCo', 'rwxtc', 'manage'], ['rwaxDtc', 'rwatc-', 'remove'],
@@ -94,8 +101,9 @@ globalThis.fetch = async (_, { body }) => {
 const top = { path: '/', kind: 'folder', text: 'list:a\n', object: NOBODY[0] };
 const documents = (most) => Array.from({ length: most }, (_, at) => (
   { path: `/${at}`, kind: 'document', text: 'follows', object: NOBODY[0] }));
-const ask = (most, groups) => foresee({ objects: [top, ...documents(most)],
-  lists: [listOf(...groups.map((one) => `A:fdg:${one}:r`))] }).catch(({ status }) => status);
+const ask = (most, groups) => foresee({ objects: [{ ...top,
+  text: printList(listOf(...groups.map((one) => `A:fdg:${one}:r`))) },
+...documents(most)] }).catch(({ status }) => status);
 for (const [objects, groups, wanted] of [[100, 8, 3], [10000, 14, 2], [20000, 20, 1],
   [40000, 1, 413]]) {
   asked = [];

@@ -4,10 +4,10 @@
 const [examples, finish] = arguments;
 
 const names = ['/entries.js', '/decide.js', '/inherit.js', '/warnings.js', '/words.js',
-  '/removers.js', '/moved.js', '/invisible.js'];
+  '/removers.js', '/invisible.js'];
 const modules = names.map((name) => import(name));
 Promise.all(modules).then((found) => {
-  const [lists, judging, inherit, warnings, words, removers, moved, signs] = found;
+  const [lists, judging, inherit, warnings, words, removers, signs] = found;
   const { readListText, readEntry, printEntry } = lists;
   const { ANYBODY, added, grantsNobody, hindrance, judge, keepsRight, oneOf, oneUser } = judging;
   const { afterSending, passedDown } = inherit;
@@ -226,53 +226,6 @@ Promise.all(modules).then((found) => {
   const four = ['/a/1', '/a/2', '/a/3', '/a/4'].map((path) => ({ ...kept, path }));
   has('many', inside(['A:fdg:staff:D'], four)[0].text,
     '“/a/3” and 1 other: they could make others');
-
-  // Who gains by a move from a folder of alice's to one of the group staff.
-  const shut = folder('/shut', 'A:fd:alice:rxC');
-  const shared = folder('/shared', line, 'A:fdg:staff:rwaxtc', 'A:fd:alice:rxC');
-  const gains = (to, first = 'list:a', own = [], kind = 'document', from = [top, shut]) => {
-    const was = list(first, ...own, ...passedDown(shut.list.entries, kind).map(printEntry));
-    const now = inherit.afterMoving(was, to.at(-1).list ?? list('list:'), kind);
-    const at = (entries, folders) => ({ target: { entries, object: ofAlice, kind }, folders });
-    return moved.gainsOf(at(was.entries, from), at(now, to), 'alice')
-      .map(({ caller, letters }) => [caller, letters]);
-  };
-  equal('a move to the group', gains([top, shared]), [[staff, 'rw']]);
-  equal('a folder', gains([top, shared], 'list:a', [], 'folder'), [[staff, 'rw']]);
-  equal('what is protected', gains([top, shared], 'list:ap'), []);
-  equal('its own denial', gains([top, shared], 'list:a', ['D:g:staff:r']), [[staff, 'w']]);
-  equal('a grant to one who isn’t let pass', gains([top, shared], 'list:a', ['A::carol:r']),
-    [[staff, 'rw']]);
-  const forAll = folder('/open', 'A:fd:alice:rxC', 'A::AUTHENTICATED@:x');
-  equal('and who is let pass now', gains([top, forAll], 'list:a', ['A::carol:r']), [[carol, 'r']]);
-  equal('not let pass', gains([folder('/', 'A::alice:x'), shared]), []);
-  const loose = folder('/loose', 'A:fdg:staff:rwx');
-  equal('removing by w', gains([top, loose]), [[staff, 'rwd']]);
-  equal('which may have been so', gains([top, loose], 'list:a', [], 'document',
-    [top, { ...shut, list: null }]), [[staff, 'rw']]);
-  const everyones = folder('/all', 'A:fdg:staff:rx', 'A:fd:AUTHENTICATED@:rx', 'A:fd:bob:rxC');
-  equal('everyone, and who gains more', gains([top, everyones]),
-    [[ANYBODY, 'r'], [oneUser('bob'), 'rC']]);
-  equal('a list that passes nothing on',
-    gains([top, { ...shared, list: list('list:', 'A:fdg:staff:r') }]), []);
-  equal('a list that is not read', gains([top, { ...shared, list: null }]), []);
-
-  // Who loses by it: whoever would gain by the way back.
-  const losses = (from, to, own = []) => {
-    const was = list('list:a', ...own,
-      ...passedDown(from.at(-1).list.entries, 'document').map(printEntry));
-    const now = inherit.afterMoving(was, to.at(-1).list ?? list('list:'), 'document');
-    const at = (entries, folders) => ({ target: { entries, object: ofAlice, kind: 'document' },
-      folders });
-    return moved.lossesOf(at(was.entries, from), at(now, to), 'alice')
-      .map(({ caller, letters }) => [caller, letters]);
-  };
-  equal('a move away from the group', losses([top, shared], [top, shut]), [[staff, 'rw']]);
-  equal('a move that the group goes along with', losses([top, shared], [top, shared]), []);
-  equal('who keeps it by its own line', losses([top, shared], [top, forAll], ['A:g:staff:r']),
-    [[staff, 'w']]);
-  equal('a move to a list that is not read', losses([top, shared], [top, { ...shut, list: null }]),
-    []);
 
   // Signs that can't be seen, and what is none.
   for (const [name, wanted] of [['plan', 'plan'], ['plan ', 'plan[space]'], [' a b', '[space]a b'],

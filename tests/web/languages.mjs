@@ -53,7 +53,7 @@ const truths = [true, false];
 const SAMPLES = {
   done: counts, whole: counts, looked: counts, known: counts, many: counts,
   rest: counts, good: counts, bad: counts, ended: counts, count: counts, objects: counts,
-  places: names, names, first: names, rights: names, depends: names, bytes: [1048576],
+  places: names, names, callers: names, groups: names, first: names, rights: names, depends: names, bytes: [1048576],
   documentsIn: [0, 1, 3], foldersIn: [1, 4], kind: kinds, level: levels, from: levels, to: levels,
   gained: removals, lost: removals, removals, isNew: truths, isFolder: truths, isInherited: truths,
   letters: ['r', 'rwdC'], letter: ['C', 'c'], type: ['A', 'D', 'U', 'L'], line: [3], number: [3],

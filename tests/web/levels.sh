@@ -61,11 +61,15 @@ node_says 'what somebody keeps further down, or owns on the way' '0 told' "$here
   "$here/web/keeping.js" page "$here/../docs/lists.md" 0
 node_says 'what is granted, where something is not known' '0 told' "$here/web/node.mjs" \
   "$here/web/deciding.js" page "$here/../docs/lists.md" 20000
-node_says 'for whom a change is asked about' '48 tried, 0 faults' "$here/web/callers.mjs" page
+node_says 'for whom a change is asked about' '50 tried, 0 faults' "$here/web/callers.mjs" page
 node_says 'what is asked and answered about a change' '2000 tried, 0 faults' \
   "$here/web/asking.mjs" page 2000
 node_says 'and what the program says of it' '150 tried, 0 faults' \
   "$here/web/asking.mjs" page 150 "$rooms"
+for members in known unknown; do
+  node_says "what is said of a move, members $members" '500 tried, 0 faults' \
+    "$here/web/going.mjs" page 500 "$members"
+done
 node_says 'what the panel says of one click, in rooms at random' '20000 tried, 0 faults' \
   "$here/web/unsaid.mjs" page 20000
 node_says 'what was seen further down, after changes' '300 tried, 0 faults' \

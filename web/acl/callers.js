@@ -8,7 +8,8 @@
 // that their rows have. A caller is {key, user, groups}, 'user' null for one of no name in
 // particular, and 'owns' is OWNER@ or GROUP@ for whoever that is where it can't be read. Where
 // members are known ('isExact') each user is a caller, with the groups that count; else one for
-// each user, and for up to 'most' groups together, alone and with each user ('perhaps').
+// each user, and for up to 'most' groups together, alone and with each user. Of these 'isPerhaps'
+// says that nobody may be so: several groups, or a user in one.
 
 import { isGroup } from './entries.js';
 
@@ -83,18 +84,18 @@ function knownCallers(names, known, pairs) {
   const groups = new Map();
   for (const [group, user] of pairs) groups.set(user, [...groups.get(user) ?? [], group]);
   return [...new Set([...names.users, ...groups.keys(), ...known.users])].sort()
-    .map((user) => ({ user, groups: groups.get(user) ?? [],
+    .map((user) => ({ user, groups: groups.get(user) ?? [], isPerhaps: false,
       key: names.users.has(user) || groups.has(user) ? user : ANY_OTHER }));
 }
 
-const others = { key: ANY_OTHER, user: null, groups: [] };
+const others = { key: ANY_OTHER, user: null, groups: [], isPerhaps: false };
 
 // 'most' is how many groups are asked for together: less where a question is too large.
 export function partiesFor(names, known, me = '', most = 3) {
   const users = new Set([...names.users, ...me === '' ? [] : [me]]);
   const free = freeName('+', [...users, ...known?.users ?? []]);
   const unread = names.unread.map((owns) => (
-    { key: `${free}${owns.slice(0, -1)}`, user: null, groups: [], owns }));
+    { key: `${free}${owns.slice(0, -1)}`, user: null, groups: [], owns, isPerhaps: true }));
   const isOwning = ({ owns }) => owns === 'GROUP@';
   const ofUnread = unread.filter(isOwning).map(({ key }) => (
     { label: key, user: ANY_OTHER, groups: [key] }));
@@ -112,9 +113,10 @@ export function partiesFor(names, known, me = '', most = 3) {
   const sets = setsOf(size === 0 ? [] : [...names.groups].sort(), size);
   const asked = [null, ...isNamed ? [...users].sort() : []].flatMap((user) =>
     sets.map((groups) => ({ user, groups })))
-    .map((one, at) => ({ ...one, key: `${free}${at}` }));
+    .map((one, at) => ({ ...one, key: `${free}${at}`,
+      isPerhaps: one.user !== null || one.groups.length > 1 }));
   const alone = [...users].sort().map((user, at) => (names.users.has(user) ? { user, key: user }
-    : { user, key: `${free}u${at}` })).map((one) => ({ ...one, groups: [] }));
+    : { user, key: `${free}u${at}` })).map((one) => ({ ...one, groups: [], isPerhaps: false }));
   const labels = [...alone.filter(({ key, user }) => key !== user), ...asked]
     .map(({ key, user, groups }) => ({ label: key, user: user ?? ANY_OTHER,
       groups: groups.length > 0 ? groups : [`${free}none`] }));
@@ -122,10 +124,15 @@ export function partiesFor(names, known, me = '', most = 3) {
     isExact: false, most: size, free };
 }
 
-// Whether this one is told of by what is told of the other: all of it is so for them too.
-export const isPartOf = (one, whole) => one !== whole && !one.owns && !whole.owns
+// Whether what is said of one is said of the other too, who is that and more.
+const isPartOf = (one, whole) => one !== whole && !one.owns
   && (one.user === null || one.user === whole.user)
   && one.groups.every((group) => whole.groups.includes(group));
 
-// Whether it isn't known that there is such a caller: several groups together, or somebody in one.
-export const isPerhaps = ({ user, groups }) => groups.length + (user === null ? 0 : 1) > 1;
+// Those of whom is to be told, of [{caller, says}] with what is said of each as a set of words:
+// without those who may be and of whom nothing is said but what is said of their parts.
+export const toTell = (found) => found.filter(({ caller, says }) => {
+  if (!caller.isPerhaps) return true;
+  const parts = found.filter((one) => isPartOf(one.caller, caller));
+  return ![...says].every((one) => parts.some((part) => part.says.has(one)));
+});

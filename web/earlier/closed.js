@@ -2,7 +2,6 @@
 // that night, it stays closed until all of it is there.
 
 import * as api from '../net/api.js';
-import { isGranted, oneUser } from '../acl/decide.js';
 import { LETTERS, isInherited, printEntry, printList } from '../acl/entries.js';
 import { isException } from '../acl/inherit.js';
 import { cutOff } from '../acl/levels.js';
@@ -54,9 +53,10 @@ export async function bringClosed(night, { path, kind }, isTop, me) {
 function listFor(list, isTop, kind, me) {
   if (!isTop) return { ...list, entries: list.entries.filter((entry) => !isInherited(entry)) };
   const cut = cutOff(list);
-  const place = { entries: cut.entries, object: { owner: me, group: null } };
-  return isGranted(place, 'C', oneUser(me)) ? cut
-    : { ...cut, entries: [mineAlone(me, kind), ...cut.entries] };
+  const [first] = cut.entries;
+  const isMine = first?.type === 'A' && first.who === me && first.mask.includes('C')
+    && !/[gi]/.test(first.flags);
+  return isMine ? cut : { ...cut, entries: [mineAlone(me, kind), ...cut.entries] };
 }
 
 // Gives what came back its lists of that night, from the inside out, so that nobody gets in before

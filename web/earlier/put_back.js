@@ -11,7 +11,6 @@ import { inTurn } from '../folder/batch.js';
 import { save, saveWhole } from '../folder/download.js';
 import { askingInTurn } from '../folder/replacing.js';
 import { putSafely, tagNow } from '../folder/safe_put.js';
-import { people } from '../net/directory.js';
 import { element } from '../ui/dom.js';
 import { question, tell, tellFault, waitFor } from '../ui/messages.js';
 import { stoppable } from '../ui/panel.js';
@@ -19,9 +18,10 @@ import { asWork } from '../ui/working.js';
 import { texts } from '../language/language.js';
 import { nightFault, timeOf } from '../text/night_words.js';
 import { isolated, placeWords } from '../text/words.js';
+import { noAnswerWords } from '../text/would_words.js';
 
 export function tellNightFault(fault) {
-  const said = nightFault(fault);
+  const said = fault.asked?.word === 'would' ? noAnswerWords(fault) : nightFault(fault);
   if (said === null) tellFault(fault);
   else tell('bad', said);
 }
@@ -73,8 +73,12 @@ async function looked({ night }, missing, documents) {
   const isOpen = opens.gained.length + opens.unknown > 0;
   const isOffered = isOpen
     && await waitFor(mayClose(tops.map(({ path }) => api.parentOf(path))));
-  return { opens, isOpen, readers: await waitFor(whoReads(night, tops, isOffered)) };
+  return { opens, isOpen, readers: await waitFor(whoReads(opens.all, isOffered)) };
 }
+
+const warningsOf = (warned) => (warned.length === 0 ? null : element('ul',
+  { class: 'warnings', 'aria-label': texts.acts.mindThis },
+  warned.map((text) => element('li', { class: 'bad' }, text))));
 
 // What is chosen of it: {what: 'missing' or 'all', who: 'alone', 'then' or 'now'}, or null.
 async function asked(night, object, all) {
@@ -92,10 +96,10 @@ async function asked(night, object, all) {
   const answers = there === 0 ? [['missing', texts.earlier.putBack, look]] : [
     ...missing.length === 0 ? [] : [['missing', texts.earlier.onlyMissing, look]],
     ['all', all.length === 1 ? texts.earlier.replace : texts.earlier.allOfIt, 'danger']];
-  const warned = opensWords(opens, await people());
-  const more = element('div', {}, warned.length === 0 ? null : element('ul',
-    { class: 'warnings', 'aria-label': texts.acts.mindThis },
-    warned.map((text) => element('li', { class: 'bad' }, text))), readers.box);
+  const { sure, perhaps } = opensWords(opens);
+  const more = element('div', {}, warningsOf(sure), perhaps.length === 0 ? null
+    : element('details', {}, element('summary', {}, texts.would.perhaps), warningsOf(perhaps)),
+  readers.box);
   const what = await question(texts.earlier.question(nameShown(object.path)),
     putBackWords(missing.length, there, night, readers.box !== null), answers, more);
   return what === null ? null : { what, who: readers.chosen() };

@@ -1,16 +1,22 @@
-// Who could read something on an earlier night, and who could if it came back as its folder is now.
-// Nothing here draws or changes.
+// Who could read something on an earlier night, and who could if it came back: as its folder is
+// now, or with the lists of that night. The program is asked. Nothing here draws or changes.
 
 import * as api from '../net/api.js';
 import { foldersAbove } from '../net/ancestors.js';
+import { people } from '../net/directory.js';
 import { listThen } from '../net/nights.js';
-import { callersIn, isGranted, mayPass } from '../acl/decide.js';
-import { readListText } from '../acl/entries.js';
-import { ofOthers, passedDown } from '../acl/inherit.js';
-import { gainsOf } from '../folder/moved.js';
+import { wayObjects } from '../net/pieces.js';
+import { foresee } from '../net/would.js';
+import { AFTER, BEFORE } from '../acl/answer.js';
+import { toTell } from '../acl/callers.js';
+import { printList, readListText } from '../acl/entries.js';
+import { cutOff } from '../acl/levels.js';
+import { FOLLOWS } from '../acl/question.js';
+import { partyName } from '../text/parties.js';
 
 // Of that night nobody tells who owned it.
 const UNOWNED = { owner: null, group: null };
+const SO_MANY = 20;
 
 // Lists of a night, each asked for once; null where it can't be read.
 export class ListsThen {
@@ -19,80 +25,100 @@ export class ListsThen {
     this.known = new Map();
   }
 
-  at(path) {
+  textAt(path) {
     if (!this.known.has(path)) {
-      this.known.set(path, listThen(this.night, path).then(
-        (text) => readListText(text).list ?? null,
-        (fault) => {
-          if (fault.status !== 403 && fault.status !== 404) throw fault;
-          return null;
-        }));
+      this.known.set(path, listThen(this.night, path).catch((fault) => {
+        if (fault.status !== 403 && fault.status !== 404) throw fault;
+        return null;
+      }));
     }
     return this.known.get(path);
   }
 
-  // The folders on the way to a path, from the top down.
+  async at(path) {
+    const text = await this.textAt(path);
+    return text === null ? null : readListText(text).list ?? null;
+  }
+
+  // The folders on the way to a path, from the top down, as foldersAbove has them.
   above(path) {
     const names = api.namesOf(path);
     return Promise.all(names.map(async (_, index) => {
       const above = `/${names.slice(0, index).join('/')}`;
-      return { path: above, list: await this.at(above), object: UNOWNED };
+      return { path: above, text: await this.textAt(above), object: UNOWNED };
     }));
   }
 }
 
-// The folders on the way to each path as they are now, asked for once for each folder.
-function waysNow() {
-  const known = new Map();
-  return (path) => {
-    const folder = api.parentOf(path);
-    if (!known.has(folder)) known.set(folder, foldersAbove(path, true));
-    return known.get(folder);
-  };
+// The objects on the way to these as they are now. What comes below a list that can't be read isn't
+// known.
+async function wayNow(folders) {
+  const ways = await Promise.all(folders.map((path) => foldersAbove(api.join(path, 'x'), true)));
+  const unread = new Set(ways.map((way) => way.at(-1)).filter(({ text }) => text === null)
+    .map(({ path }) => path));
+  return wayObjects(...ways).map((one) => (
+    unread.has(one.path) ? { ...one, text: null } : one));
 }
 
-// What each of these would be if it came back as an upload does: it follows its folder. They come
-// after the folder that they are in. Returns the states by path: {target, folders}, with a null in
-// the place of what isn't known.
-async function statesNow(missing, me) {
-  const [states, wayTo] = [new Map(), waysNow()];
-  for (const { path, kind } of missing) {
-    const above = states.get(api.parentOf(path));
-    const folders = above === undefined ? await wayTo(path)
-      : [...above.folders, { path: api.parentOf(path), object: above.target.object,
-        list: above.target.entries && { auto: true, protect: false,
-          entries: above.target.entries } }];
-    const { list, object } = folders.at(-1);
-    states.set(path, { folders, target: { kind, object: { ...ofOthers(object.group), owner: me },
-      entries: list && passedDown(list.entries, kind) } });
+// What comes back is mine, and of the group of the folder that it comes to.
+function comingTo(way, missing, me, textOf) {
+  const groups = new Map(way.map(({ path, object }) => [path, object.group]));
+  return missing.map((one) => {
+    const group = groups.get(api.parentOf(one.path)) ?? null;
+    groups.set(one.path, group);
+    return { come: one.path, kind: one.kind, text: textOf(one), object: { owner: me, group } };
+  });
+}
+
+// What is known of that night and of now, for the questions: {night objects, way, missing, ..}.
+async function readAll(night, missing, show, isStopped) {
+  const lists = new ListsThen(night);
+  const tops = missing.filter(({ path }) =>
+    !missing.some((one) => one.path === api.parentOf(path)));
+  const folders = [...new Set(tops.map(({ path }) => api.parentOf(path)))];
+  const [me, known, way, ...ways] = await Promise.all([api.whoAmI().catch(() => ''), people(),
+    wayNow(folders), ...folders.map((path) => lists.above(api.join(path, 'x')))]);
+  const then = [];
+  for (let at = 0; at < missing.length && !isStopped(); at += SO_MANY) {
+    show(at, missing.length);
+    then.push(...await Promise.all(missing.slice(at, at + SO_MANY).map(async ({ path, kind }) => (
+      { path, kind, text: await lists.textAt(path), object: UNOWNED }))));
   }
-  return states;
+  return { me, known, way, tops, then, objects: [...wayObjects(...ways), ...then] };
 }
 
-// Who may read more than that night: {gained: [{caller, count}], unknown}, of which 'unknown' says
-// of how many objects that can't be seen. 'show' is told how far it is.
+// Those for whom a condition holds at some of these paths, by name: [{name, paths, isPerhaps}].
+function namedAt(said, paths, known, holds) {
+  const found = said.callers.map((caller) => (
+    { caller, says: new Set(paths.filter((path) => holds(caller, path))) }))
+    .filter(({ says }) => says.size > 0);
+  return toTell(found).map(({ caller, says }) => ({ count: says.size,
+    isPerhaps: caller.isPerhaps, name: partyName(caller, said.asked, known) }));
+}
+
+const readsAt = (said, side) => (caller, path) => {
+  const row = said.at(path, caller, side);
+  return row === null ? null : row.mask.includes('r');
+};
+
+// Who may read more than that night: {gained: [{name, count, isPerhaps}], unknown, all}, of which
+// 'unknown' says of how many objects that can't be seen, and 'all' is what was read, for those who
+// ask for readers. 'show' is told how far it is.
 export async function opensBy(night, missing, show, isStopped) {
-  const me = await api.whoAmI().catch(() => '');
-  const [lists, states] = [new ListsThen(night), await statesNow(missing, me)];
-  const gained = new Map();
-  let unknown = 0;
-  for (const [index, { path, kind }] of missing.entries()) {
-    if (isStopped()) break;
-    show(index, missing.length);
-    const list = await lists.at(path);
-    const now = states.get(path);
-    if (list === null || now.target.entries === null) unknown += 1;
-    else {
-      const then = { folders: await lists.above(path),
-        target: { kind, object: UNOWNED, entries: list.entries } };
-      for (const { caller, letters } of gainsOf(then, now, me)) {
-        const key = JSON.stringify(caller);
-        const count = (gained.get(key)?.count ?? 0) + 1;
-        if (letters.includes('r')) gained.set(key, { caller, count });
-      }
-    }
-  }
-  return { gained: [...gained.values()], unknown };
+  const all = await readAll(night, missing, show, isStopped);
+  if (missing.length === 0 || isStopped()) return { gained: [], unknown: 0, all };
+  const { me, known, way, objects, then } = all;
+  const changes = comingTo(way, missing, me, () => FOLLOWS);
+  const ask = (given, beside) => foresee({ ...given, known, me, beside });
+  const [before, after] = await Promise.all([ask({ objects }, [...way, ...changes]),
+    ask({ objects: way, changes }, objects)]);
+  const [had, has] = [readsAt(before, BEFORE), readsAt(after, AFTER)];
+  const [any] = after.callers;
+  const paths = then.map(({ path }) => path);
+  const isKnown = (path) => had(any, path) !== null && has(any, path) !== null;
+  const gained = namedAt(after, paths.filter(isKnown), known,
+    (caller, path) => caller.user !== me && has(caller, path) && !had(caller, path));
+  return { gained, unknown: paths.filter((path) => !isKnown(path)).length, all };
 }
 
 // Whether I may change the lists of what I make in each of these folders.
@@ -102,13 +128,20 @@ export async function mayClose(folders) {
   return all.every((may) => may?.C.ruling === 'allowed');
 }
 
-// Whoever may read each of these paths with its list of that night, as far as folders let them pass
-// now; a null in the place of those where that list can't be read.
-export async function readersThen(night, paths) {
-  const [lists, wayTo] = [new ListsThen(night), waysNow()];
-  return Promise.all(paths.map(async (path) => {
-    const [list, folders] = await Promise.all([lists.at(path), wayTo(path)]);
-    return list && callersIn(list.entries, UNOWNED).filter((caller) => mayPass(folders, caller)
-      && isGranted({ entries: list.entries, object: UNOWNED }, 'r', caller));
-  }));
+// Whoever may then read what comes back with its lists of that night, and whoever may remove it if
+// I alone may read it, as far as folders let them pass now: {readers, removers}, names. The readers
+// are null where a list of that night can't be read.
+export async function readersThen({ me, known, way, tops, then }) {
+  const texts = new Map(then.map(({ path, text }) => [path, text]));
+  const paths = tops.map(({ path }) => path);
+  const ask = (textOf) => foresee({ objects: way, known, me,
+    changes: comingTo(way, tops, me, textOf) });
+  const isRead = paths.every((path) => texts.get(path) !== null);
+  const cut = ({ path }) => printList(cutOff(readListText(texts.get(path)).list));
+  const mine = ({ kind }) => `list:p\nA:${kind === 'folder' ? 'fd' : ''}:${me}:rwxC\n`;
+  const [opened, closed] = await Promise.all([isRead ? ask(cut) : null, ask(mine)]);
+  const named = (said, holds) => namedAt(said, paths, known, holds).map(({ name }) => name);
+  return { readers: opened && named(opened, readsAt(opened, AFTER)),
+    removers: named(closed, (caller, path) => caller.user !== me
+      && closed.at(path, caller, AFTER)?.removes) };
 }

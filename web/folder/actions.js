@@ -17,6 +17,7 @@ import { readersWords } from './moved.js';
 import { form, question, showDialog, tell, tellFault, waitFor } from '../ui/messages.js';
 import { openPdf, preview } from './preview.js';
 import { isolated, nameFault, placeWords, sentenceOf } from '../text/words.js';
+import { noAnswerWords } from '../text/would_words.js';
 
 // Asks again, with what was typed, as long as something of that name is there already. Returns what
 // was typed at last, or null.
@@ -148,7 +149,7 @@ export async function look(path) {
 export async function copyLink(path) {
   const address = new URL(linkTo(path), location.href).href;
   const copied = await navigator.clipboard?.writeText(address).then(() => true, () => false);
-  const readers = await waitFor(readersWords(path)).catch(sentenceOf);
+  const readers = await waitFor(readersWords(path)).catch(noAnswerWords);
   const rights = `${texts.folder.linkGives} ${readers}`;
   if (copied) tell('good', `${texts.folder.linkCopied} ${rights}`);
   else {

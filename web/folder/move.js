@@ -7,6 +7,7 @@ import { movedWords } from './moved.js';
 import { form, showDialog, waitFor } from '../ui/messages.js';
 import { sorted } from './sorting.js';
 import { nameFault, sentenceOf } from '../text/words.js';
+import { noAnswerWords } from '../text/would_words.js';
 
 // Goes from folder to folder. 'chosen.path' is the one that is looked at, and 'moved' aren't
 // offered.
@@ -59,15 +60,26 @@ export async function askPlace(objects) {
   return given && chosen.path;
 }
 
+const warnings = (told) => element('ul', { class: 'warnings', 'aria-label': texts.acts.mindThis },
+  told.map(({ kind, text }) => element('li', { class: kind }, text)));
+
+const folded = (told) => (told.length === 0 ? null : element('details', {},
+  element('summary', {}, texts.would.perhaps), warnings(told)));
+
+// What is said where it can't be said who could get at them: it isn't known that nobody could.
+const unanswered = (fault) => ({ title: texts.moving.unanswered, perhaps: [], isKnown: false,
+  warned: [{ kind: 'unsure', text: noAnswerWords(fault) }] });
+
 // Whether these may go into the folder, after a question if more people could then get at them.
 export async function accepted(objects, folder) {
-  const told = await waitFor(movedWords(objects, folder));
-  if (told === null || told.warned.length === 0) return told !== null;
+  const told = await waitFor(movedWords(objects, folder)).catch(unanswered);
+  if (told === null || told.warned.length + told.perhaps.length === 0) return told !== null;
   const answer = await showDialog(told.title, (finish) => [
-    element('ul', { class: 'warnings', 'aria-label': texts.acts.mindThis },
-      told.warned.map(({ kind, text }) => element('li', { class: kind }, text))),
+    told.warned.length === 0 ? null : warnings(told.warned), folded(told.perhaps),
     element('div', { class: 'actions' },
       button(texts.acts.cancel, () => finish(null), { autofocus: true }),
+      told.isKnown === false
+        ? button(texts.acts.tryAgain, () => finish('again'), { class: 'primary' }) : null,
       button(texts.moving.allTheSame, () => finish('move'), { class: 'danger' }))]);
-  return answer !== null;
+  return answer === 'again' ? accepted(objects, folder) : answer !== null;
 }

@@ -1,145 +1,185 @@
-// Who could do more and who less with objects if they were moved, as sentences, before they are.
-// What is linked to its folder follows the new folder's list, and what is protected keeps its own.
+// Who could do more and who less with objects if they were moved, as sentences, before they are:
+// the program is asked what comes of the move.
 
 import * as api from '../net/api.js';
-import { attributesAt, foldersAbove, listAt } from '../net/ancestors.js';
+import { foldersAbove, objectAt } from '../net/ancestors.js';
 import { texts } from '../language/language.js';
 import { people } from '../net/directory.js';
-import { ANYBODY, callersIn, isGranted, mayDelete, mayPass } from '../acl/decide.js';
-import { afterMoving, childOf } from '../acl/inherit.js';
+import { readPieces, wayObjects, withImagined } from '../net/pieces.js';
+import { foresee } from '../net/would.js';
+import { AFTER, BEFORE } from '../acl/answer.js';
+import { ANY_OTHER, toTell } from '../acl/callers.js';
+import { UNNAMED } from '../acl/question.js';
 import { stoppable } from '../ui/panel.js';
-import { mayRemoveIn } from '../text/removers.js';
-import { callerWords, isolated, placeWords } from '../text/words.js';
+import { partyName } from '../text/parties.js';
+import { unreadNames } from '../text/unread.js';
+import { shortened } from '../text/who_is.js';
+import { isolated, placeWords } from '../text/words.js';
+import { lessWords } from '../text/would_words.js';
 
-const MOST_NAMED = 3;
+const [MOST_PLACES, MOST_CALLERS] = [3, 6];
+const LETTERS = { r: /r/, w: /[wa]/, C: /[Co]/ };
+const IN_ORDER = 'rwdC';
 
-// What a caller may do with an object {entries, object, kind}, and with what is in it: the letters
-// r, w, d and C. 'folders' are those above, from the top down, at least one. One whose list isn't
-// known hinders nobody here, and that it isn't known is told.
-function rightsAt(target, folders, caller) {
-  if (!mayPass(folders, caller)) return '';
-  const inside = target.kind === 'folder'
-    ? ['folder', 'document'].map((kind) => childOf(target, kind)) : [];
-  const has = (letters) => [target, ...inside].some((one) =>
-    [...letters].some((letter) => isGranted(one, letter, caller)));
-  const { list, object } = folders.at(-1);
-  const removes = mayDelete(target, { entries: list?.entries ?? [], object }, caller) === 'yes'
-    || (target.kind === 'folder' && mayRemoveIn(target, caller));
-  return [has('r') && 'r', has('wa') && 'w', removes && 'd', has('Co') && 'C']
-    .filter(Boolean).join('');
+// The letters of r, w, d and C that somebody has by one state of an object, or of what others make
+// in it, and not by another one; null where that isn't known.
+function lettersAt(said, { path, kind }, caller, [had, has]) {
+  const [before, then] = [had, has].map((side) => said.extentAt(path, kind, caller, side));
+  if (before === null || then === null) return null;
+  const isNew = (holds) => then.all.slice(0, 3).some((one, at) =>
+    holds(one) && !holds(before.all[at]));
+  return [...Object.keys(LETTERS).filter((letter) => isNew(({ mask }) =>
+    LETTERS[letter].test(mask))), ...isNew(({ removes }) => removes) ? ['d'] : []];
 }
 
-// Those who may do more by 'after' than by 'before', both {target, folders}: [{caller, letters}].
-export function gainsOf(before, after, me) {
-  const { entries, object } = after.target;
-  const callers = callersIn([...entries, ...after.folders.at(-1).list?.entries ?? []], object);
-  // By an unread list of the old folder, everybody may have removed it.
-  const unknown = before.folders.at(-1).list === null ? 'd' : '';
-  const gains = callers.filter(({ user }) => user !== me).map((caller) => {
-    const had = rightsAt(before.target, before.folders, caller) + unknown;
-    const has = rightsAt(after.target, after.folders, caller);
-    return { caller, letters: [...has].filter((letter) => !had.includes(letter)).join('') };
-  }).filter(({ letters }) => letters !== '');
-  // What everyone gains isn't told of each of them.
-  const all = gains.find(({ caller }) => caller === ANYBODY)?.letters ?? '';
-  return gains.filter(({ caller, letters }) =>
-    caller === ANYBODY || [...letters].some((letter) => !all.includes(letter)));
+// The places of which is told what changes: what is moved, and below it where there are rows.
+function placesIn(said, { to, object, nodes }) {
+  const rows = new Set(said.callers.flatMap((caller) => said.changed(caller)));
+  const then = (path) => `${to}${path.slice(object.path.length)}`;
+  return [object, ...nodes].map((one) => ({ ...one, from: one.path, path: then(one.path) }))
+    .filter((one) => one.path === to || rows.has(one.path)
+      || [...rows].some((row) => row.startsWith(`${one.path}/${UNNAMED}`)));
 }
 
-// Those who may do less: whoever could do more if it were moved back. Where the new folder's list
-// isn't known, that is told.
-export const lossesOf = (before, after, me) => (after.folders.at(-1).list === null ? []
-  : gainsOf(after, before, me));
-
-function namesOf(objects) {
-  const names = objects.slice(0, MOST_NAMED).map(({ path }) => isolated(api.nameOf(path)));
-  const more = objects.length - names.length;
-  return more > 0 ? [...names, texts.lists.others(more)] : names;
+// What each caller gains or loses at the places of a piece, and wasn't told of nearer to the top:
+// [{place, found: [{caller, says}]}]. 'sides' are the two states, the one to be had first.
+function changesOf(said, places, sides, me) {
+  const told = new Map();
+  return places.map((place) => {
+    const found = said.callers.filter(({ user }) => user !== me).flatMap((caller) => {
+      const letters = lettersAt(said, place, caller, sides) ?? [];
+      const key = `${caller.key} ${caller.user}`;
+      const above = [...told.get(key) ?? []].filter(({ path }) =>
+        place.path.startsWith(`${path}/`)).flatMap(({ says }) => says);
+      const says = letters.filter((one) => !above.includes(one));
+      told.set(key, [...told.get(key) ?? [], { path: place.path, says }]);
+      return says.length === 0 ? [] : [{ caller, says: new Set(says) }];
+    });
+    return { place, found: toTell(found) };
+  });
 }
 
-// Objects of which the same is told share a sentence: 'say' makes it of what is told of one, their
-// names, and whether there is a folder among them.
-function sentences(told, say) {
+// What everybody else gains isn't told of each of them.
+function shared(found) {
+  const all = found.find(({ caller }) => caller.key === ANY_OTHER && caller.user === null);
+  return all === undefined ? found
+    : found.filter((one) => one === all || [...one.says].some((letter) => !all.says.has(letter)));
+}
+
+// What is told of places: [{who, letters, places, isPerhaps}]. Those who gain the same share a
+// sentence, and so do places of which the same is told.
+function toldOf(changes, { asked }, known) {
   const groups = new Map();
-  for (const { object, ...one } of told) {
-    const key = JSON.stringify(one);
-    groups.set(key, { one, objects: [...groups.get(key)?.objects ?? [], object] });
-  }
-  return [...groups.values()].map(({ one, objects }) =>
-    say(one, namesOf(objects), objects.some(({ kind }) => kind === 'folder')));
-}
-
-async function stateOf(object, from, to) {
-  const list = await listAt(object.path);
-  if (list === null) return null;
-  const owners = [list, from.at(-1).list, to.at(-1).list].flatMap((one) => one?.entries ?? [])
-    .some(({ who }) => who === 'OWNER@' || who === 'GROUP@');
-  const given = owners ? await attributesAt(object.path) : { owner: null, group: null };
-  const above = to.at(-1).list;
-  const before = { entries: list.entries, object: given, kind: object.kind };
-  const entries = above === null ? list.entries : afterMoving(list, above, object.kind);
-  return [{ target: before, folders: from }, { target: { ...before, entries }, folders: to }];
-}
-
-// Who gains and who loses what by a move of each of these, {who, letters, object}, and whose lists
-// can't be read, {object}: {gained, lost, unread}. Null if that was stopped.
-async function lookAt(objects, from, to) {
-  const [me, known] = await Promise.all([api.whoAmI().catch(() => ''), people()]);
-  const found = { gained: [], lost: [], unread: [] };
-  const panel = stoppable(texts.moving.lookAtLists, objects.length);
-  for (const [index, object] of objects.entries()) {
-    panel.show(index, objects.length);
-    if (panel.isStopped()) break;
-    const states = await stateOf(object, from, to);
-    const say = (those, all) => those.push(...all.map(({ caller, letters }) => (
-      { who: callerWords(caller, known), letters, object })));
-    if (states === null) found.unread.push({ object });
-    else {
-      say(found.gained, gainsOf(...states, me));
-      say(found.lost, lossesOf(...states, me));
+  for (const { place, found } of changes) {
+    const alike = new Map();
+    for (const { caller, says } of shared(found)) {
+      const letters = [...IN_ORDER].filter((one) => says.has(one)).join('');
+      const key = JSON.stringify([letters, caller.isPerhaps]);
+      alike.set(key, [...alike.get(key) ?? [], partyName(caller, asked, known)]);
+    }
+    for (const [key, who] of alike) {
+      const whole = JSON.stringify([key, who]);
+      const [letters, isPerhaps] = JSON.parse(key);
+      const places = [...groups.get(whole)?.places ?? [], place];
+      groups.set(whole, { who, letters, isPerhaps, places });
     }
   }
-  panel.remove();
-  return panel.isStopped() ? null : found;
+  return [...groups.values()];
 }
 
-function titleOf({ gained, lost }) {
-  if (gained.length > 0) return texts.moving.morePeople;
-  return lost.length > 0 ? texts.moving.fewerPeople : texts.moving.unknownPeople;
+// What has no name here is some of what is in its folder.
+function nameOf({ from, top }) {
+  const [named, ...rest] = from.split(`/${UNNAMED}`);
+  const shown = isolated(named.slice(api.parentOf(top).length).replace(/^\//, ''));
+  return rest.length === 0 ? shown : texts.moving.someIn(shown);
 }
 
-// {title, warned: [{kind, text}]} for objects of a folder that are about to be moved into another
-// one, or null if the user stopped that.
+const sentencesOf = (told, say, kind) => told.map(({ who, letters, places, isPerhaps }) => (
+  { isPerhaps, kind, text: say(shortened(who, MOST_CALLERS), letters,
+    shortened([...new Set(places.map(nameOf))], MOST_PLACES),
+    places.some((one) => one.kind === 'folder' && !one.from.includes(UNNAMED))) }));
+
+// What is asked about a move of these pieces: the answer, with where each goes.
+async function ask(pieces, ways, folder, [known, me]) {
+  const moves = pieces.map((one, at) => ({ ...one, to: api.join(folder, `${UNNAMED}m${at}`) }));
+  const below = pieces.flatMap(({ object, nodes }) => [object, ...nodes]);
+  const tops = pieces.map(({ object }) => object).filter(({ kind }) => kind === 'folder');
+  const said = await foresee({ known, me,
+    objects: [...wayObjects(...ways), ...withImagined(below, tops.map(({ path }) => path))],
+    changes: moves.map(({ object, to }) => ({ move: object.path, to })) });
+  return { said, moves };
+}
+
+// By an unread list of the old folder, everybody may have removed it.
+const withoutRemoving = (changes) => changes.map((one) => ({ ...one,
+  found: one.found.map(({ caller, says }) => (
+    { caller, says: new Set([...says].filter((letter) => letter !== 'd')) }))
+    .filter(({ says }) => says.size > 0) }));
+
+// Who gains and who loses, as sentences: {gained, lost}.
+function changeWords({ said, moves }, [from, to], [known, me]) {
+  const places = moves.map((one) => placesIn(said, one)
+    .map((place) => ({ ...place, top: one.object.path })));
+  const told = (sides, without) => toldOf(without(places.flatMap((those) =>
+    changesOf(said, those, sides, me))), said, known);
+  const isRead = (folders) => folders.at(-1).text !== null;
+  const gained = told([BEFORE, AFTER], isRead(from) ? (all) => all : withoutRemoving);
+  const lost = isRead(to) ? told([AFTER, BEFORE], (all) => all) : [];
+  return { gained: sentencesOf(gained, texts.moving.gaining, 'bad'),
+    lost: sentencesOf(lost, texts.moving.losing, 'unsure') };
+}
+
+// What can't be said: of folders on the way, of what is moved, and of what is in it.
+function unknownWords(pieces, [from, to]) {
+  const unread = pieces.filter(({ object }) => object.text === null);
+  const closed = to.filter(({ text, path }) => text === null
+    && !from.some((one) => one.path === path));
+  const below = pieces.flatMap((one) => one.unread);
+  return [...closed.map(({ path }) => texts.moving.unknownAt(placeWords(path))),
+    ...unread.length === 0 ? [] : [texts.moving.unknownOf(shortened(unread.map(({ object }) =>
+      isolated(api.nameOf(object.path))), MOST_PLACES))],
+    ...below.length === 0 ? [] : [texts.outcome.unreadThere(unreadNames(below, MOST_PLACES))],
+  ].map((text) => ({ kind: 'unsure', text }));
+}
+
+function titleOf(gained, lost) {
+  const isSure = (all) => all.some(({ isPerhaps }) => !isPerhaps);
+  if (isSure(gained)) return texts.moving.morePeople;
+  return isSure(lost) ? texts.moving.fewerPeople : texts.moving.unknownPeople;
+}
+
+// {title, warned: [{kind, text}], perhaps: the same} for objects of a folder that are about to be
+// moved into another one, or null if the user stopped that. 'perhaps' is what isn't sure.
 export async function movedWords(objects, folder) {
-  if (api.parentOf(objects[0].path) === folder) return { title: '', warned: [] };
-  const [from, to] = await Promise.all([foldersAbove(objects[0].path, true),
-    foldersAbove(api.join(folder, 'x'), true)]);
-  const found = await lookAt(objects, from, to);
-  if (found === null) return null;
-  const closed = to.filter(({ list, path }) => list === null
-    && !from.some((one) => one.path === path)).map(({ path }) => path);
-  const say = (kind, those, words) => sentences(those, ({ who, letters }, names, isFolder) => (
-    { kind, text: words(who, letters, names, isFolder) }));
-  const warned = [
-    ...say('bad', found.gained, texts.moving.gaining),
-    ...say('unsure', found.lost, texts.moving.losing),
-    ...closed.map((path) => ({ kind: 'unsure', text: texts.moving.unknownAt(placeWords(path)) })),
-    ...sentences(found.unread, (_, names) => (
-      { kind: 'unsure', text: texts.moving.unknownOf(names) })),
-  ];
-  return { warned, title: titleOf(found) };
+  if (api.parentOf(objects[0].path) === folder) return { title: '', warned: [], perhaps: [] };
+  const panel = stoppable(texts.moving.lookAtLists, objects.length);
+  const [who, pieces, ...ways] = await Promise.all([
+    Promise.all([people(), api.whoAmI().catch(() => '')]),
+    readPieces(objects, panel.show, panel.isStopped), foldersAbove(objects[0].path, true),
+    foldersAbove(api.join(folder, 'x'), true)]).finally(panel.remove);
+  if (panel.isStopped()) return null;
+  const read = pieces.filter(({ object }) => object.text !== null);
+  const answer = read.length === 0 ? null : await ask(read, ways, folder, who);
+  const { gained, lost } = answer === null ? { gained: [], lost: [] }
+    : changeWords(answer, ways, who);
+  const all = [...gained, ...lost];
+  const less = answer && lessWords(answer.said.asked);
+  return { title: titleOf(gained, lost), perhaps: all.filter(({ isPerhaps }) => isPerhaps),
+    warned: [...all.filter(({ isPerhaps }) => !isPerhaps), ...unknownWords(pieces, ways),
+      ...less === null ? [] : [{ kind: 'unsure', text: less }]] };
 }
 
 // Who may read at a place, as far as it is known, in a sentence.
 export async function readersWords(path) {
-  const [list, object, folders, known] = await Promise.all([listAt(path), attributesAt(path),
-    foldersAbove(path, true), people()]);
-  if (list === null) return texts.moving.readersUnknown;
-  const readers = callersIn(list.entries, object).filter((caller) => mayPass(folders, caller)
-    && isGranted({ entries: list.entries, object }, 'r', caller));
-  const isSure = folders.every((one) => one.list !== null);
+  const [object, folders, known, me] = await Promise.all([
+    objectAt(path), foldersAbove(path, true), people(), api.whoAmI().catch(() => '')]);
+  if (object.text === null) return texts.moving.readersUnknown;
+  const said = await foresee({ known, me,
+    objects: [...wayObjects(folders), object] });
+  const readers = toTell(said.callers.flatMap((caller) => (
+    said.at(path, caller, BEFORE)?.mask.includes('r') ? [{ caller, says: new Set('r') }] : [])));
+  const isSure = folders.every(({ text }) => text !== null);
   if (readers.length === 0) return isSure ? texts.moving.noReaders : texts.moving.noReadersPerhaps;
-  const named = readers.includes(ANYBODY) ? [ANYBODY] : readers;
   return (isSure ? texts.moving.readers : texts.moving.readersPerhaps)(
-    named.map((one) => callerWords(one, known)));
+    shortened(shared(readers).map(({ caller }) => partyName(caller, said.asked, known)), 12));
 }

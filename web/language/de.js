@@ -12,6 +12,7 @@ import { DE_READY } from './de_ready.js';
 import { EVERYONE, OTHERS, SIGNED_IN, verb } from './de_people.js';
 import { DE_SEARCH } from './de_search.js';
 import { formsOf } from './forms.js';
+import { DE_WOULD } from './de_would.js';
 
 const { number, and, or, count, day } = formsOf('de', 'und', 'oder');
 
@@ -51,6 +52,8 @@ const WHO = {
   others: OTHERS,
   unknownOwner: 'die besitzende Person',
   unknownGroup: 'die Eigentümergruppe',
+  inGroups: (groups) => `wer in ${and(groups)} ist`,
+  ifIn: (name, groups) => `${name} (falls in ${and(groups)})`,
 };
 
 const NAMES = {
@@ -209,4 +212,5 @@ export const DE = {
   folder: DE_FOLDER, find: DE_FIND, moving: DE_MOVING, upload: DE_UPLOAD, rights: DE_RIGHTS,
   faults: DE_FAULTS, warnings: DE_WARNINGS, access: DE_ACCESS, outcome: DE_OUTCOME,
   advanced: DE_ADVANCED, ready: DE_READY, earlier: DE_EARLIER, pages: DE_PAGES, search: DE_SEARCH,
+  would: DE_WOULD,
 };

@@ -1,6 +1,7 @@
 // What was there on an earlier night, and how it comes back, in German.
 
-import { formsOf } from './forms.js';
+import { verb } from './de_people.js';
+import { capital, formsOf } from './forms.js';
 
 const LOCALE = 'de';
 const { count, and } = formsOf(LOCALE, 'und', 'oder');
@@ -77,6 +78,8 @@ export const DE_EARLIER = {
   alone: 'Nur ich',
   peopleThen: (names) => `Die Leute jener Nacht: ${and(names)}`,
   peopleNow: 'Wer den Ordner jetzt lesen darf',
+  removable: (names) => `${capital(and(names))} ${verb(names, 'darf', 'dürfen')} es entfernen oder `
+    + 'wegverschieben, wer immer es liest.',
   staysShut: (places) => `${and(places)} bleibt für Sie allein offen: Die Liste jener Nacht konnte `
     + 'nicht gesetzt werden.',
   onlyMissing: 'Nur was fehlt',

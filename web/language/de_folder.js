@@ -143,10 +143,14 @@ export const DE_MOVING = {
   notMoved: (many) => (many === 1 ? '1 weiteres Objekt konnte nicht verschoben werden.'
     : `${number(many)} weitere Objekte konnten nicht verschoben werden.`),
   lookAtLists: 'Die Listen werden angesehen',
-  gaining: (who, letters, names, isFolder) => `${capital(who)} ${verb([who], 'darf', 'dürfen')} `
-    + `dann ${objectsIn(names, isFolder)} ${and(rightsOf(letters))}.`,
-  losing: (who, letters, names, isFolder) => `${capital(who)} ${verb([who], 'kann', 'können')} `
-    + `dann ${objectsIn(names, isFolder)} nicht mehr ${or(rightsOf(letters))}.`,
+  gaining: (callers, letters, names, isFolder) => `${capital(and(callers))} `
+    + `${verb(callers, 'darf', 'dürfen')} dann `
+    + `${objectsIn(names, isFolder)} ${and(rightsOf(letters))}.`,
+  losing: (callers, letters, names, isFolder) => `${capital(and(callers))} `
+    + `${verb(callers, 'kann', 'können')} dann `
+    + `${objectsIn(names, isFolder)} nicht mehr ${or(rightsOf(letters))}.`,
+  someIn: (name) => `einiges in ${name}`,
+  unanswered: 'Es lässt sich nicht sagen, wer dort darauf zugreifen könnte',
   morePeople: 'Dort könnten mehr Personen darauf zugreifen',
   fewerPeople: 'Dort können weniger Personen darauf zugreifen',
   unknownPeople: 'Es ist nicht bekannt, wer dort darauf zugreifen kann',

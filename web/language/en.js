@@ -11,6 +11,7 @@ import { EN_PAGES } from './en_pages.js';
 import { EN_READY } from './en_ready.js';
 import { EN_SEARCH } from './en_search.js';
 import { formsOf } from './forms.js';
+import { EN_WOULD } from './en_would.js';
 
 const { number, and, or, count, day } = formsOf('en-GB', 'and', 'or');
 
@@ -50,6 +51,8 @@ const WHO = {
   others: 'everyone else who signs in',
   unknownOwner: 'whoever owns it',
   unknownGroup: 'the owning group',
+  inGroups: (groups) => `whoever is in ${and(groups)}`,
+  ifIn: (name, groups) => `${name} (if in ${and(groups)})`,
 };
 
 // As the panel of access calls them.
@@ -198,4 +201,5 @@ export const EN = {
   folder: EN_FOLDER, find: EN_FIND, moving: EN_MOVING, upload: EN_UPLOAD, rights: EN_RIGHTS,
   faults: EN_FAULTS, warnings: EN_WARNINGS, access: EN_ACCESS, outcome: EN_OUTCOME,
   advanced: EN_ADVANCED, ready: EN_READY, earlier: EN_EARLIER, pages: EN_PAGES, search: EN_SEARCH,
+  would: EN_WOULD,
 };

@@ -76,6 +76,7 @@ export const EN_EARLIER = {
   alone: 'I alone',
   peopleThen: (names) => `The people of that night: ${and(names)}`,
   peopleNow: 'Whoever may read the folder now',
+  removable: (names) => `${capital(and(names))} may remove it or move it away, whoever reads it.`,
   staysShut: (places) => `${and(places)} stays open to you alone: its list of that night couldn’t `
     + 'be set.',
   onlyMissing: 'Only what is missing',

@@ -119,7 +119,7 @@ const RIGHTS = { r: 'read', w: 'change', d: 'remove or move away', C: 'manage' }
 const rightsOf = (letters) => [...letters].map((letter) => RIGHTS[letter]);
 const INSIDE = ' and what is in it, apart from what is protected';
 
-// Where objects are moved, and what that brings about. 'who' may be the group of a name.
+// Where objects are moved, and what that brings about.
 export const EN_MOVING = {
   into: (place) => ['In ', place],
   above: 'The folder above',
@@ -140,10 +140,12 @@ export const EN_MOVING = {
   staysHere: (name) => `${name} stays here.`,
   notMoved: (many) => `${count(many, 'more object', 'more objects')} couldn’t be moved.`,
   lookAtLists: 'Look at the lists',
-  gaining: (who, letters, names, isFolder) =>
-    `${capital(who)} may then ${and(rightsOf(letters))} ${and(names)}${isFolder ? INSIDE : ''}.`,
-  losing: (who, letters, names, isFolder) => `${capital(who)} can then no longer `
+  gaining: (callers, letters, names, isFolder) => `${capital(and(callers))} may then `
+    + `${and(rightsOf(letters))} ${and(names)}${isFolder ? INSIDE : ''}.`,
+  losing: (callers, letters, names, isFolder) => `${capital(and(callers))} can then no longer `
     + `${or(rightsOf(letters))} ${and(names)}${isFolder ? INSIDE : ''}.`,
+  someIn: (name) => `some of what is in ${name}`,
+  unanswered: 'It can’t be said who could get at it there',
   morePeople: 'More people could get at it there',
   fewerPeople: 'Fewer people can get at it there',
   unknownPeople: 'It isn’t known who can get at it there',

@@ -11,6 +11,7 @@ import { FR_ADVANCED, FR_RIGHTS, FR_WARNINGS } from './fr_lists.js';
 import { FR_MOMENTS } from './fr_moments.js';
 import { FR_PAGES } from './fr_pages.js';
 import { FR_READY } from './fr_ready.js';
+import { FR_WOULD } from './fr_would.js';
 
 const { number, and, or, count, day } = formsOf('fr', 'et', 'ou');
 
@@ -46,6 +47,8 @@ const WHO = {
   others: 'toute autre personne connectée',
   unknownOwner: 'la personne propriétaire',
   unknownGroup: 'le groupe propriétaire',
+  inGroups: (groups) => `qui est dans ${and(groups)}`,
+  ifIn: (name, groups) => `${name} (si membre de ${and(groups)})`,
 };
 
 const NAMES = {
@@ -204,4 +207,5 @@ export const FR = {
   folder: FR_FOLDER, find: FR_FIND, moving: FR_MOVING, upload: FR_UPLOAD, rights: FR_RIGHTS,
   faults: FR_FAULTS, warnings: FR_WARNINGS, access: FR_ACCESS, outcome: FR_OUTCOME,
   advanced: FR_ADVANCED, ready: FR_READY, earlier: FR_EARLIER, pages: FR_PAGES, search: FR_SEARCH,
+  would: FR_WOULD,
 };

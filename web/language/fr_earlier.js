@@ -1,6 +1,6 @@
 // What was there on an earlier night, and how it comes back, in French.
 
-import { formsOf } from './forms.js';
+import { capital, formsOf } from './forms.js';
 
 const LOCALE = 'fr';
 const { count, and } = formsOf(LOCALE, 'et', 'ou');
@@ -78,6 +78,8 @@ export const FR_EARLIER = {
   alone: 'Moi seulement',
   peopleThen: (names) => `Les personnes de cette nuit-là : ${and(names)}`,
   peopleNow: 'Qui peut lire le dossier maintenant',
+  removable: (names) => `${capital(and(names))} ${names.length === 1 ? 'peut' : 'peuvent'} le `
+    + 'supprimer ou le déplacer ailleurs, peu importe qui le lit.',
   staysShut: (places) => `${and(places)} reste ouvert à vous seulement : sa liste de cette `
     + 'nuit-là n’a pas pu être mise.',
   onlyMissing: 'Seulement ce qui manque',

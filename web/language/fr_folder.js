@@ -146,10 +146,14 @@ export const FR_MOVING = {
   notMoved: (many) => (many < 2 ? `${number(many)} autre objet n’a pas pu être déplacé.`
     : `${number(many)} autres objets n’ont pas pu être déplacés.`),
   lookAtLists: 'Examen des listes',
-  gaining: (who, letters, names, isFolder) => `${capital(who)} pourra alors `
+  gaining: (callers, letters, names, isFolder) => `${capital(and(callers))} `
+    + `${callers.length === 1 ? 'pourra' : 'pourront'} alors `
     + `${and(rightsOf(letters))} ${objectsIn(names, isFolder)}.`,
-  losing: (who, letters, names, isFolder) => `${capital(who)} ne pourra alors plus `
+  losing: (callers, letters, names, isFolder) => `${capital(and(callers))} ne `
+    + `${callers.length === 1 ? 'pourra' : 'pourront'} alors plus `
     + `${rightsOf(letters).join(' ni ')} ${objectsIn(names, isFolder)}.`,
+  someIn: (name) => `une partie du contenu de ${name}`,
+  unanswered: 'On ne peut pas dire qui pourrait y accéder là-bas',
   morePeople: 'Plus de personnes pourraient y accéder là-bas',
   fewerPeople: 'Moins de personnes peuvent y accéder là-bas',
   unknownPeople: 'On ne sait pas qui peut y accéder là-bas',

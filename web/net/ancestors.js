@@ -21,6 +21,15 @@ export const listAt = (path) => textAt(path).then(readOf);
 
 export const attributesAt = (path) => api.readAttributes(path).catch(ifDenied(UNKNOWN));
 
+// Where it isn't told, only a list of a folder passes something on.
+const kindBy = (text) => (/^[ADUL]:[^:]*[fdni]/m.test(text ?? '') ? 'folder' : 'document');
+
+// An object as a question has it. Its list is null where it may not be read.
+export async function objectAt(path, kind = null) {
+  const [text, object] = await Promise.all([textAt(path), attributesAt(path)]);
+  return { path, kind: kind ?? object.kind ?? kindBy(text), text, object };
+}
+
 // The folders on the way to a path as {path, text, list, object}, from the top down, or only the
 // last of them. Text and list are null where they may not be read.
 export async function foldersAbove(path, whole) {

@@ -24,7 +24,7 @@ export const together = (...those) => [...new Map(those.flat()
   .map((one) => [`${one.path} ${one.count}`, one])).values()];
 
 // Where the folder itself can't be listed, that is known of it; what is gone has nothing in it.
-async function lookBelow(path, at) {
+export async function lookBelow(path, at = path) {
   try {
     return seenBelow(await differsBelow(path, at));
   } catch (fault) {

@@ -1,19 +1,21 @@
 // What would come of a change, as the program says it (docs/would.md). Nothing is added to what was
 // read: the answer follows from the question.
 //
-//   const said = await foresee({ objects, changes, lists, known, me });
+//   const said = await foresee({ objects, changes, known, me });
 //
-// 'objects' and 'changes' are as acl/question.js has them; 'lists' are those of both that can be
-// read, as entries.js reads them, for whom they mean; 'known' is what people() says. Without
-// changes it is what each may do now. It is a Said of acl/answer.js, whose 'asked.most' says how
-// many groups together were asked for; 'then' are the lists that come of it, by path, if 'then' is
-// asked for. It fails with a Refusal, also where there is no answer: then nothing is known.
+// 'objects' and 'changes' are as acl/question.js has them, and 'known' is what people() says.
+// Without changes it is what each may do now. It is a Said of acl/answer.js, whose 'asked.most'
+// says how many groups together were asked for; 'then' are the lists that come of it, by path, if
+// 'then' is asked for. Whom the objects 'beside' name is asked for too, so that answers of several
+// questions are about the same callers. It fails with a Refusal, also where there is no answer:
+// then nothing is known.
 
 import { Refusal, jsonOrNull } from './api.js';
 import { untilAnswered } from './retry.js';
 import { Said } from '../acl/answer.js';
 import { partiesFor, namesIn } from '../acl/callers.js';
-import { markFor, questionOf } from '../acl/question.js';
+import { readListText } from '../acl/entries.js';
+import { FOLLOWS, markFor, questionOf } from '../acl/question.js';
 
 // What nginx and the door take, and what the program works out.
 const MOST_BYTES = 1048576;
@@ -40,14 +42,21 @@ const isTooMuch = ({ all }, objects, texts) =>
   (all.length + new Set(objects.map(({ object }) => object?.owner)).size + 2) * objects.length
     > MOST_TURNS || texts.some((one) => sizeOf(one) > MOST_BYTES);
 
+// The lists of these that can be read, each once.
+const listsIn = (objects) => [...new Set(objects.map(({ text }) => text))]
+  .filter((text) => text && text !== FOLLOWS).map((text) => readListText(text).list)
+  .filter(Boolean);
+
 // The questions, with as many groups together as fit: {asked, texts}.
-function written({ objects, changes, lists, known, me, then }, mark) {
-  const names = namesIn(lists, [...objects, ...changes].flatMap(({ object }) => object ?? []));
+function written({ objects, changes, beside, known, me, then }, mark) {
+  const all = [...objects, ...changes];
+  const named = [...all, ...beside];
+  const names = namesIn(listsIn(named), named.flatMap(({ object }) => object ?? []));
   for (let most = 3; most >= 0; most -= 1) {
     const asked = partiesFor(names, known, me, most);
     const texts = [questionOf(objects, [{ look: '/' }], asked, { mark }),
       ...changes.length > 0 ? [questionOf(objects, changes, asked, { mark, lists: then })] : []];
-    if (!isTooMuch(asked, [...objects, ...changes], texts)) return { asked, texts };
+    if (!isTooMuch(asked, all, texts)) return { asked, texts };
     // Of those who are known there is no smaller question.
     if (asked.isExact) break;
   }
@@ -74,7 +83,7 @@ function kindsOf(objects, changes, from) {
 /** @param {any} given */
 export async function foresee(given) {
   const { objects, changes = [] } = given;
-  const all = { lists: [], known: null, me: '', then: false, ...given, changes };
+  const all = { beside: [], known: null, me: '', then: false, ...given, changes };
   const mark = markFor([...objects.map(({ path }) => path),
     ...changes.flatMap(({ set, move, to, come, look }) => [set, move, to, come, look])]
     .filter(Boolean).map((path) => path.replaceAll(/\u0000[^/]*/g, '')));

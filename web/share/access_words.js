@@ -8,7 +8,7 @@ import { WHO_HAS_ACCESS, lossWords } from '../text/warnings.js';
 import { isolated } from '../text/words.js';
 import { shortened } from '../text/who_is.js';
 import { subjectsOf } from './subjects.js';
-import { unreadNames } from './unread.js';
+import { unreadNames } from '../text/unread.js';
 
 export const MOST_NAMED = 6;
 const MOST_PLACES = 6;

@@ -23,7 +23,7 @@ import { people } from '../net/directory.js';
 import { lookingLine } from '../ui/progress.js';
 import { placeName, shownName } from './access_words.js';
 import { onlyThese } from './only_these.js';
-import { unreadNames } from './unread.js';
+import { unreadNames } from '../text/unread.js';
 import { shortened } from '../text/who_is.js';
 import { isolated, sentenceOf } from '../text/words.js';
 

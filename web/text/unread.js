@@ -1,8 +1,8 @@
 // What can't be seen of what lies further down, in words.
 
 import { texts } from '../language/language.js';
-import { isolated } from '../text/words.js';
-import { shortened } from '../text/who_is.js';
+import { isolated } from './words.js';
+import { shortened } from './who_is.js';
 
 const nameOf = ({ path, count }) => {
   const place = texts.places.quoted(isolated(path));

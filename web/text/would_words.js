@@ -1,0 +1,17 @@
+// That it can't be said what would come of a change, in words.
+
+import { texts } from '../language/language.js';
+import { sentenceOf } from './words.js';
+
+// Why there is no answer. What else failed is told as what it is.
+export function noAnswerWords(fault) {
+  if (fault.asked?.word !== 'would') return sentenceOf(fault);
+  const line = String(fault.body?.line ?? '');
+  if (fault.status === 413 || line.includes(' W6 ')) return texts.would.tooMuch;
+  return fault.status === 400 && fault.body?.why === 'refused' ? texts.would.changed
+    : texts.would.noAnswer;
+}
+
+// Those of so many groups together were asked for.
+export const lessWords = ({ isExact, most }) => (isExact || most === 3 ? null
+  : texts.would.fewerGroups(most));
