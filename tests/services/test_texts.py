@@ -4,11 +4,12 @@ import random
 import shutil
 import subprocess
 import tempfile
+import tracemalloc
 import unicodedata
 import unittest
 
 import papers
-from rooms_services.texts import extract, folding, scan
+from rooms_services.texts import extract, folding, scan, store
 from rooms_services.texts.sink import MOST_TEXT, State
 
 LINES = ["Kündigung der Straße 5 & Grüße <an> Müller", "Über Œuvre, naïve Ärzte: 12.345 €",
@@ -65,6 +66,54 @@ class Kinds(unittest.TestCase):
         self.assertIs(state, State.CUT)
         self.assertLessEqual(len(text.encode()), MOST_TEXT)
         self.assertTrue(text.lstrip().startswith("word word"))
+
+
+class Stores(unittest.TestCase):
+    def setUp(self) -> None:
+        above = tempfile.TemporaryDirectory()
+        self.addCleanup(above.cleanup)
+        self.folder = os.path.join(above.name, "night")
+
+    def make(self, count: int) -> None:
+        """Not in the order of their numbers, as what moved comes."""
+        making = store.Making(self.folder)
+        for number in range(count, 0, -1):
+            total = store.sum_of(str(number).encode())
+            making.note(number, total)
+            making.put(total, State.WHOLE, f"word of {number}.".encode())
+        making.end({"at": 1, "night": "2026-11-30.020000"})
+        making.close()
+
+    def test_very_many_documents(self) -> None:
+        """Those of one room keep no other room's from being asked about."""
+        self.make(30_000)
+        tracemalloc.start()
+        kept = store.Store(self.folder)
+        taken = tracemalloc.get_traced_memory()[0]
+        tracemalloc.stop()
+        self.assertLess(taken, 30_000 * 20)
+        found = kept.match([b"word of 1"], [30_000, 7, 19, 1, 30_001, 0, 1 << 70])
+        self.assertEqual(found, ([(19, 1), (1, 1)], [30_001, 0, 1 << 70], 0))
+        self.assertEqual(kept.sums([7, 30_001]), [store.sum_of(b"7").hex(), ""])
+        self.assertEqual(len(kept.by_sum()), 30_000)
+
+    def test_what_is_damaged(self) -> None:
+        self.make(20)
+        for name in ("index", "texts"):
+            with open(f"{self.folder}/{name}", "rb") as source:
+                whole = source.read()
+            row = whole[-store._ROW.size:]
+            for bad in (b"", whole[:-1], whole + b"x", whole[:-len(row)], whole + row,
+                        whole[:-2 * len(row)] + row + row):
+                if len(bad) == len(whole) and name == "texts":
+                    continue
+                with open(f"{self.folder}/{name}", "wb") as out:
+                    out.write(bad)
+                with self.assertRaises(store.NoStore):
+                    store.Store(self.folder)
+            with open(f"{self.folder}/{name}", "wb") as out:
+                out.write(whole)
+        self.assertEqual(len(store.Store(self.folder).by_sum()), 20)
 
 
 @unittest.skipUnless(shutil.which("tesseract") and shutil.which("pdftoppm"), "no tesseract")

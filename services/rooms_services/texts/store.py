@@ -8,7 +8,9 @@ import json
 import mmap
 import os
 import struct
-from collections.abc import Iterable
+from array import array
+from bisect import bisect_left
+from collections.abc import Iterable, Iterator
 from typing import IO, NamedTuple
 
 from .extract import VERSION
@@ -16,8 +18,8 @@ from .sink import State
 
 # Of a folded text: a letter may become eighteen.
 MOST_FOLDED = 2 << 20
-# Of the form of these files.
-FORM = 1
+# Of the form of these files: the rows of the index go up by their numbers.
+FORM = 2
 _ROW = struct.Struct("<qqIB32s")
 _STATES = list(State)
 _BEGIN = 4096
@@ -89,7 +91,7 @@ class Making:
                 "documents": len(self._rows)}
         with open(f"{self._folder}/index", "xb") as out:
             out.write(json.dumps(head).encode() + b"\n")
-            for number, total in self._rows:
+            for number, total in sorted(self._rows):
                 at, length, state, _ = self._by_sum[total]
                 out.write(_ROW.pack(number, at, length, _STATES.index(state), total))
             _sync(out)
@@ -108,8 +110,15 @@ def _sync(out: IO[bytes]) -> None:
     os.fsync(out.fileno())
 
 
+def _mapped(source: IO[bytes]) -> mmap.mmap | bytes:
+    """None of it is held in memory while nobody asks for it."""
+    size = os.fstat(source.fileno()).st_size
+    return mmap.mmap(source.fileno(), size, access=mmap.ACCESS_READ) if size else b""
+
+
 class Store:
-    """A store that is whole, to be read."""
+    """A store that is whole, to be read. There may be a million documents: of each there is a
+    number in memory, and what else the index has is looked up in the file."""
 
     def __init__(self, folder: str) -> None:
         try:
@@ -120,25 +129,37 @@ class Store:
     def _read(self, folder: str) -> None:
         with open(f"{folder}/index", "rb") as source:
             head = json.loads(source.readline(_BEGIN))
-            rows = source.read()
+            self._rows, self._begin = _mapped(source), source.tell()
         self.night, self.reader, size = str(head["night"]), int(head["reader"]), int(head["size"])
-        if head["form"] != FORM or len(rows) != int(head["documents"]) * _ROW.size:
+        if head["form"] != FORM or (
+                len(self._rows) != self._begin + int(head["documents"]) * _ROW.size):
             raise ValueError("the index isn't whole")
-        same: dict[bytes, bytes] = {}
-        self._places: dict[int, Place] = {}
-        for number, at, length, state, total in _ROW.iter_unpack(rows):
-            if at < 0 or at + length > size:
+        self._numbers = array("q")
+        for number, at, length, state, _ in self._each():
+            if at < 0 or at + length > size or state >= len(_STATES):
                 raise ValueError("a text isn't there")
-            self._places[number] = Place(at, length, _STATES[state],
-                                         same.setdefault(total, total))
+            if self._numbers and number <= self._numbers[-1]:
+                raise ValueError("the index isn't in its order")
+            self._numbers.append(number)
         with open(f"{folder}/texts", "rb") as source:
-            if os.fstat(source.fileno()).st_size != size:
-                raise ValueError("the texts aren't whole")
-            self._texts: mmap.mmap | bytes = mmap.mmap(
-                source.fileno(), size, access=mmap.ACCESS_READ) if size else b""
+            self._texts = _mapped(source)
+        if len(self._texts) != size:
+            raise ValueError("the texts aren't whole")
+
+    def _each(self) -> Iterator[tuple[int, int, int, int, bytes]]:
+        return _ROW.iter_unpack(memoryview(self._rows)[self._begin:])
+
+    def _place(self, number: int) -> Place | None:
+        row = bisect_left(self._numbers, number)
+        if row == len(self._numbers) or self._numbers[row] != number:
+            return None
+        _, at, length, state, total = _ROW.unpack_from(
+            self._rows, self._begin + row * _ROW.size)
+        return Place(at, length, _STATES[state], total)
 
     def by_sum(self) -> dict[bytes, Place]:
-        return {one.sum: one for one in self._places.values()}
+        return {total: Place(at, length, _STATES[state], total)
+                for _, at, length, state, total in self._each()}
 
     def text(self, place: Place) -> bytes:
         return self._texts[place.at:place.at + place.length]
@@ -150,7 +171,7 @@ class Store:
         unknown: list[int] = []
         empty = 0
         for number in numbers:
-            place = self._places.get(number)
+            place = self._place(number)
             if place is None or place.state is State.LATER:
                 # (it wasn't its turn that night)
                 unknown += [number] if place is None else []
@@ -164,5 +185,5 @@ class Store:
 
     def sums(self, numbers: Iterable[int]) -> list[str]:
         """Nothing for one that isn't there."""
-        return [place.sum.hex() if (place := self._places.get(number)) else ""
+        return [place.sum.hex() if (place := self._place(number)) else ""
                 for number in numbers]
