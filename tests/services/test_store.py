@@ -162,10 +162,29 @@ class Stores(Based):
         numbers = self.night(5, {"/one": b"text"})
         many: Tree = {f"/{at}": b"%d" % at for at in range(60)}
         copy(f"{self.folder}/copy", many)
-        refuses = night.Night("office", lambda data: (State.LATER, ""), 60.0)
-        with mock.patch.object(night, "PAUSE", 0.0), self.assertRaises(night.NobodyReads):
-            refuses.make(f"{self.folder}/copy", 6, "2026-11-30.020000")
+        for nobody in (0.1, night.NOBODY):
+            with mock.patch.object(night, "PAUSE", 0.0), self.assertRaises(night.NobodyReads), \
+                    mock.patch.object(night, "NOBODY", nobody):
+                night.Night("office", lambda data: (State.LATER, ""), 60.0).make(
+                    f"{self.folder}/copy", 6, "2026-11-30.020000")
         self.assertEqual(self.found(5, numbers, "text"), {"/one": 1})
+
+    def test_others_read_meanwhile(self) -> None:
+        """Those who search, for a while: what was refused then comes the night after."""
+        many: Tree = {f"/{at}": b"text %d" % at for at in range(90)}
+        numbers = copy(f"{self.folder}/copy", many)
+        asked = iter(range(9999))
+
+        def reads(data: bytes) -> tuple[State, str]:
+            return self.reads(data) if next(asked) > 60 * 5 else (State.LATER, "")
+        with mock.patch.object(night, "PAUSE", 0.0), mock.patch.object(night, "TRIES", 5):
+            made = night.Night("office", reads, 60.0).make(f"{self.folder}/copy", 6,
+                                                           "2026-11-30.020000")
+        self.assertGreaterEqual(made[State.WHOLE], 25)
+        self.assertEqual(sum(made.values()), 90)
+        self.assertEqual(len(self.found(6, numbers, "text")), made[State.WHOLE])
+        self.night(7, many)
+        self.assertEqual(len(self.read), 90 - made[State.WHOLE])
 
     def test_a_night_that_is_cut_off(self) -> None:
         """At each of its steps: the last store or the new one, and the next night is whole."""

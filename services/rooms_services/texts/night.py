@@ -34,8 +34,9 @@ from .store import Making, sum_of
 SCANS, SCAN_SECONDS = "/run/rooms-scan/socket", 200.0
 # Seconds of a night, at how many documents are read at once, and how many wait for that.
 SECONDS, AT_ONCE, WAITING = 1800.0, 3, 12
-# How often one is asked for that is refused, and how many in a row, until there seem to be none.
-TRIES, PAUSE, NOBODY = 5, 0.4, 20
+# How often one is asked for that is refused, and for how many seconds each is, until there seem to
+# be none: those who search, in several rooms, may have all that there may be for a while.
+TRIES, PAUSE, NOBODY = 75, 0.4, 300.0
 # After these seconds more than scans have a file ends it that was made to take long.
 LONGEST = 2700
 LIST = "without.csv"
@@ -115,7 +116,8 @@ class Night:
         self._read, self._read_scan, self._scans = read, read_scan or _scanned, scans
         self._until = time.monotonic() + seconds
         self._fresh = os.path.join(nights.FOLDER, room, nights.NEW)
-        self._refused = 0
+        # Since when.
+        self._refused: float | None = None
         self._waits: deque[tuple[bytes, Future[tuple[State, str]]]] = deque()
         self._sums: list[tuple[str, bytes]] = []
         self.read = self.scans = 0
@@ -127,11 +129,15 @@ class Night:
                 break
             state, text = self._read(data)
             if state is not State.LATER:
-                self._refused = 0
+                self._refused = None
                 return state, text
+            self._refused = self._refused or time.monotonic()
             time.sleep(PAUSE)
-        self._refused += time.monotonic() < self._until
         return State.LATER, ""
+
+    def _has_nobody(self, seconds: float) -> bool:
+        now = time.monotonic()
+        return self._refused is not None and self._refused + seconds <= now < self._until
 
     def make(self, file: str, at: int, night: str) -> Counter[State]:
         last = nights.last(self.room)
@@ -183,7 +189,9 @@ class Night:
             state, text = future.result()
             self.read += state is not State.LATER
             making.put(total, state, folded(plain(text)).encode())
-            if self._refused >= NOBODY:
+            is_last = most == 0 and not self._waits
+            if state is State.LATER and self._has_nobody(
+                    0.0 if is_last and not self.read else NOBODY):
                 self._waits.clear()
                 self._until = 0.0
                 raise NobodyReads
