@@ -53,9 +53,14 @@ class Ended(Large):
             if self.judged.names("p"):
                 self.assertEqual(self.put(data), 409)
                 self.assertEqual(json.loads(self.said)["why"], "left-over")
-            for left in reversed(self.judged.names("p")):
-                self.judged.does("pat", "DELETE", f"/object/p/{left}")
+                self.assertEqual(self.ask("DELETE", "/door/left/p/d", user="bob")[0], 403)
+                self.assertEqual(self.ask("DELETE", "/door/left/p/d", user="pat")[0], 204)
+            self.assertEqual(self.judged.names("p"), [])
+            self.assertEqual(self.ask("DELETE", "/door/left/p/d", user="pat")[0], 404)
         self.assertEqual(changes, in_parts.places_for(3 * SMALL) + 1)
+        self.assertEqual(self.got(), data)
+        # Nothing is left of a whole one.
+        self.assertEqual(self.ask("DELETE", "/door/left/p/d", user="pat")[0], 404)
         self.assertEqual(self.got(), data)
 
     def test_of_one_that_is_replaced(self) -> None:

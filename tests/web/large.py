@@ -91,6 +91,36 @@ class Large:
         self.bob.says('10,485,760', css='.uploads .bad')
         assert self.puts() == before
 
+    def left(self):
+        """What an upload left that was broken off goes, if somebody says so who may remove it."""
+        for number in (1, 2):
+            self.ask('PUT', f'/doc/letters/broken.bin~rooms-part-000{number}', b'x' * number, 'bob')
+        bob = self.bob
+        bob.open('#/letters')
+        self.send(bob, 'broken.bin', self.first)
+        bob.press('Cancel', 'dialog')
+        bob.says('broken.bin', css='.uploads .bad')
+        assert len([name for name in self.names() if name.startswith('broken')]) == 2
+        self.send(bob, 'broken.bin', self.first)
+        bob.press('Remove them, and upload it', 'dialog')
+        bob.says('broken.bin', 'uploaded', css='.uploads .good')
+        assert self.ask('GET', '/door/doc/letters/broken.bin') == self.first
+        self.ask('DELETE', '/door/object/letters/broken.bin', user='bob')
+
+    def previewed(self):
+        """The beginning of a long text, and no more than a browser lays out."""
+        self.ask('PUT', '/door/doc/letters/long.txt', b'xxx' + b'lin \xc3\xa4\n' * 400_000,
+                 'bob',
+                 If_None_Match='*')
+        bob = self.bob
+        bob.open('#/letters')
+        bob.act('Preview', 'long.txt')
+        bob.says('This is its beginning', css='dialog .hint')
+        shown = bob.script("return document.querySelector('dialog pre').textContent.length")
+        assert 1_000_000 < shown < 2_097_152, shown
+        bob.press('Close', 'dialog')
+        self.ask('DELETE', '/door/object/letters/long.txt', user='bob')
+
     def no_place(self):
         """What the room has left is less: how much that is stands there, and others still go."""
         folder = f'{self.folder}/run/rooms-full'
@@ -171,7 +201,9 @@ PLAY = [
     ('and downloaded', Large.downloaded),
     ('and replaced by somebody else', Large.replaced),
     ('what is too large isn’t sent', Large.too_large),
-    ('nor what the room has no place for', Large.no_place),
+    ('what a broken upload left is removed', Large.left),
+    ('a long text is shown in part', Large.previewed),
+    ('what the room has no place for isn’t sent', Large.no_place),
     ('nor what has no parts', Large.refused_before),
     ('an upload is stopped', Large.stopped),
     ('it has one list', Large.shared),

@@ -29,10 +29,15 @@ function imageOf(bytes, type, name) {
   return image;
 }
 
-// The text, or null where these bytes aren't UTF-8 or are no text.
+// A browser lays out no more text at once.
+const MOST_TEXT = 2097152;
+
+// The text or its beginning, or null where these bytes aren't UTF-8 or are no text.
 function textOf(bytes) {
+  const isCut = bytes.byteLength > MOST_TEXT;
   try {
-    const text = new TextDecoder('utf-8', { fatal: true }).decode(bytes);
+    const text = new TextDecoder('utf-8', { fatal: true })
+      .decode(isCut ? bytes.slice(0, MOST_TEXT) : bytes, { stream: isCut });
     return /[\u0000-\u0008\u000e-\u001a]/.test(text) ? null : text;
   } catch {
     return null;
@@ -64,7 +69,9 @@ function contentOf(bytes, name) {
   const text = textOf(bytes);
   if (text === null) return none();
   if (text === '') return element('p', { class: 'empty' }, texts.folder.emptyDocument);
-  return element('pre', { tabindex: '0', dir: 'auto', 'aria-label': name }, text);
+  const shown = element('pre', { tabindex: '0', dir: 'auto', 'aria-label': name }, text);
+  return bytes.byteLength <= MOST_TEXT ? shown
+    : element('div', {}, shown, element('p', { class: 'hint' }, texts.folder.beginning));
 }
 
 const read = (path) => waitFor(readTagged('doc', path));

@@ -2,7 +2,7 @@
 // or what was seen.
 
 import * as api from '../net/api.js';
-import { putDocument, tagAt } from '../net/door.js';
+import { putDocument, removeLeft, tagAt } from '../net/door.js';
 import { noteTag, tagGivenOut } from '../net/given_out.js';
 import { isUnanswered } from '../net/retry.js';
 import { freeBeside } from './replacing.js';
@@ -28,6 +28,11 @@ export async function hasSame({ path, file }) {
   return got.length === sent.length && got.every((byte, at) => byte === sent[at]);
 }
 
+// An upload of that name was broken off, as by a room that ended. Its parts are no document.
+const isLeftOver = ({ status, body }) => status === 409 && body?.why === 'left-over';
+const mayGo = async ({ name, path }, ask) =>
+  await ask({ name, path, why: 'left', who: null }) === 'replace';
+
 // Sends {name, path, file, seen}. 'isThere' says that something is there which may be replaced, of
 // which the tag 'seen' was seen. 'ask' says what is to be done where it isn't that any more; to
 // keep both changes the path. Returns whether it was made by that, or null if all was left as it
@@ -41,6 +46,10 @@ export async function putSafely(job, isThere, ask, onProgress, signal = null) {
       await noteTag(job.path, tag);
       return made;
     } catch (fault) {
+      if (isLeftOver(fault) && await mayGo(job, ask)) {
+        await removeLeft(job.path);
+        continue;
+      }
       if (fault.status !== 412) throw fault;
       const { why, who, tag } = fault.body;
       if (await hasSame(job).catch(() => false)) return why === 'exists';

@@ -103,6 +103,7 @@ export const DE_FOLDER = {
   pdf: 'Der Browser zeigt PDF-Dokumente in einem eigenen Tab.',
   openInTab: 'In einem Tab öffnen',
   emptyDocument: 'Das Dokument ist leer.',
+  beginning: 'Das ist der Anfang. Laden Sie es herunter, um alles zu sehen.',
   cantOpen: 'Das können Sie nicht öffnen',
 };
 
@@ -203,6 +204,12 @@ export const DE_UPLOAD = {
       text: (name) => `${name} ist nicht mehr da: Jemand hat es entfernt, umbenannt oder `
         + 'verschoben.',
       replace: 'Trotzdem hochladen',
+    },
+    left: {
+      title: 'Reste eines Hochladens entfernen?',
+      text: (name) => `Ein Hochladen von ${name} wurde abgebrochen, und seine Teile sind noch da, `
+        + 'mit einer Nummer hinter diesem Namen. Ohne die übrigen nützen sie nichts.',
+      replace: 'Entfernen und hochladen',
     },
   },
   noFolder: 'sein Ordner konnte nicht angelegt werden',

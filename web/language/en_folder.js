@@ -101,6 +101,7 @@ export const EN_FOLDER = {
   pdf: 'The browser shows PDF documents in a tab of their own.',
   openInTab: 'Open in a tab',
   emptyDocument: 'The document is empty.',
+  beginning: 'This is its beginning. Download it to see all of it.',
   cantOpen: 'You can’t open this',
 };
 
@@ -194,6 +195,12 @@ export const EN_UPLOAD = {
       title: 'Somebody removed it meanwhile',
       text: (name) => `${name} isn’t there any more: somebody removed, renamed or moved it.`,
       replace: 'Upload it all the same',
+    },
+    left: {
+      title: 'Remove what an upload left?',
+      text: (name) => `An upload of ${name} was broken off, and its parts are still there, with a `
+        + 'number behind that name. Without all of them they are no use.',
+      replace: 'Remove them, and upload it',
     },
   },
   noFolder: 'its folder couldn’t be made',

@@ -105,6 +105,7 @@ export const FR_FOLDER = {
   pdf: 'Le navigateur affiche les documents PDF dans leur propre onglet.',
   openInTab: 'Ouvrir dans un onglet',
   emptyDocument: 'Le document est vide.',
+  beginning: 'Ceci est le début. Téléchargez-le pour tout voir.',
   cantOpen: 'Vous ne pouvez pas ouvrir ceci',
 };
 
@@ -206,6 +207,12 @@ export const FR_UPLOAD = {
       title: 'Quelqu’un l’a supprimé entre-temps',
       text: (name) => `${name} n’est plus là : quelqu’un l’a supprimé, renommé ou déplacé.`,
       replace: 'Envoyer quand même',
+    },
+    left: {
+      title: 'Supprimer les restes d’un envoi ?',
+      text: (name) => `Un envoi de ${name} a été interrompu, et ses parties sont encore là, avec un `
+        + 'numéro après ce nom. Sans les autres, elles ne servent à rien.',
+      replace: 'Les supprimer et envoyer',
     },
   },
   noFolder: 'son dossier n’a pas pu être créé',

@@ -7,7 +7,7 @@ import { untilAnswered } from './retry.js';
 // What the room would be asked for, so that a refusal is told in the same words.
 const WORDS = {
   below: 'folder', closed: 'folder', find: 'folder', goes: 'folder', latest: 'folder',
-  pages: 'doc', places: 'doc', search: 'folder', zip: 'folder',
+  left: 'object', pages: 'doc', places: 'doc', search: 'folder', zip: 'folder',
 };
 
 // Sends until there is an answer, for half a minute.
@@ -160,6 +160,9 @@ export async function putDocument(path, bytes, fields, onProgress = () => {}, si
   }
   return insisting(() => putOnce('door/doc', path, bytes, fields, onProgress, signal));
 }
+
+// Takes away what an upload left that was broken off.
+export const removeLeft = (path) => insisting(() => ask('DELETE', 'left', path, 'text'));
 
 export const putList = (which, path, text, fields) =>
   insisting(() => ask('PUT', which, path, 'text', '', { body: text, headers: fields }));

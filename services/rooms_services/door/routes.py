@@ -143,6 +143,10 @@ def _remove(asked: Asked) -> Answer:
     return together.removed(asked.room, asked.user, asked.names)
 
 
+def _remove_left(asked: Asked) -> Answer:
+    return together.left_removed(asked.room, asked.user, asked.names)
+
+
 def _move(asked: Asked) -> Answer:
     return together.moved(asked.room, asked.user, asked.names, names_of_move(asked.body))
 
@@ -163,6 +167,7 @@ ROUTES: dict[str, dict[str, Route]] = {
     "zip": {"GET": _zip},
     "doc": _MATCHED, "dacl": _MATCHED, "sacl": _MATCHED,
     "attr": {"PUT": _give}, "move": {"POST": _move}, "object": {"DELETE": _remove},
+    "left": {"DELETE": _remove_left},
     "places": {"POST": _prepare}}
 
 

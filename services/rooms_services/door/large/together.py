@@ -39,6 +39,19 @@ def remove(ask: Asks, names: Names) -> Reply:
     return ask(about("DELETE", "object", names))
 
 
+def remove_left(ask: Asks, names: Names) -> Reply:
+    """Parts of nothing, which an upload left that was broken off: each as a document like any
+    other."""
+    count = large.count(ask, names)
+    if not count or large.is_there(ask, names):
+        raise Stop(404, "no-such", "no parts of an upload are left", shown(names))
+    for number in _from_the_last(count):
+        reply = ask(about("DELETE", "object", large.part(names, number)))
+        if reply.status != 204:
+            raise refused(reply, names, number)
+    return reply
+
+
 def _may_go(ask: Asks, names: Names) -> bool:
     own = ask(about("GET", "can", names, "d"))
     above = ask(about("GET", "can", names[:-1], "Dw"))
@@ -109,6 +122,11 @@ def _may(ask: Asks, names: Names, right: str) -> bool:
 def removed(room: Room, user: str, names: Names) -> Answer:
     with HELD.alone(names), room.talk(user) as talk:
         return remove(talk.ask, names).answer()
+
+
+def left_removed(room: Room, user: str, names: Names) -> Answer:
+    with HELD.alone(names), room.talk(user) as talk:
+        return remove_left(talk.ask, names).answer()
 
 
 def moved(room: Room, user: str, names: Names, to: Names) -> Answer:
