@@ -101,9 +101,10 @@ class Settings(unittest.TestCase):
                                                              "PROGRAM=/bin/true", *rows)))
                 return settings.room(place)
             for good in ('TITLE="All of them"', "TITLE=Bob's", "TITLE=a\\b", f"FILE={at}/a b",
-                         "PORT=65535"):
+                         "PORT=65535", 'TITLE="a" b"', "# \"a'"):
                 self.assertTrue(read(good), good)
-            for bad in ('TITLE="All of them', "TITLE='", "TITLE=x\\", "KEEP=9\\"):
+            for bad in ('TITLE="All of them', "TITLE='", "TITLE=x\\", "KEEP=9\\", "TITLE= 'a",
+                        'TITLE="a" "b', "TITLE='a'\t'", 'TITLE="a\\"', "# a folder C:\\"):
                 with self.assertRaisesRegex(Refused, "line 4 goes on in the next one", msg=bad):
                     read(bad)
             for bad in (f"FILE={at}/F ", f"FILE={at}/F\t", f"FILE={at}/a\\b", f'FILE="{at}/F"',
@@ -209,7 +210,7 @@ class Lists(unittest.TestCase):
         text = page.partition("cat >/etc/rooms/directory <<'END'\n")[2].partition("END\n")[0]
         known = settings.known(settings.Directory)
         self.assertEqual(sorted(self.lines(text)), sorted(known))
-        rows = re.findall(r"^\| (`[A-Z]+`(?:, `[A-Z]+`)*) \| ", page, re.MULTILINE)
+        rows = re.findall(r"^- (`[A-Z]+`(?:, `[A-Z]+`)*): ", page, re.MULTILINE)
         self.assertEqual(sorted(re.findall("[A-Z]+", " ".join(rows))), sorted(known))
 
     def test_each_is_refused_by_its_name(self) -> None:

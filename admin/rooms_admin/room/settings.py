@@ -23,39 +23,41 @@ PROGRAM = os.path.join(_HERE.removesuffix("/share/rooms/rooms_admin")
 def _text(path: str) -> str:
     """Programs that settings name run as whoever reads them. So they are root's, or the caller's
     own, and nobody else can write to them. What is looked at is what is read."""
-    number = os.open(path, os.O_RDONLY | os.O_NONBLOCK | os.O_CLOEXEC)
-    with open(number, encoding="utf-8", errors="surrogateescape", newline="\n") as source:
-        seen = os.fstat(number)
-        if not stat.S_ISREG(seen.st_mode):
-            raise Refused(f"no settings: {path} isn't a file")
-        if seen.st_uid not in (0, os.geteuid()):
-            raise Refused(f"not safe: {path} belongs to another user, who could have you run "
-                          f"anything: read it, and then chown {os.geteuid()} {path}")
-        if seen.st_mode & 0o022:
-            raise Refused(f"not safe: others can write to {path}: chmod go-w {path}")
-        return source.read()
+    try:
+        with open(os.open(path, os.O_RDONLY | os.O_NONBLOCK | os.O_CLOEXEC), encoding="utf-8",
+                  errors="surrogateescape", newline="\n") as source:
+            seen = os.fstat(source.fileno())
+            if not stat.S_ISREG(seen.st_mode):
+                raise Refused(f"no settings: {path} isn't a file")
+            if seen.st_uid not in (0, os.geteuid()):
+                raise Refused(f"not safe: {path} belongs to another user, who could have you run "
+                              f"anything: read it, and then chown {os.geteuid()} {path}")
+            if seen.st_mode & 0o022:
+                raise Refused(f"not safe: others can write to {path}: chmod go-w {path}")
+            return source.read()
+    except OSError as fault:
+        raise Refused(f"no settings: {path} can't be read: {fault.strerror}") from fault
 
 
 def lines(path: str) -> list[tuple[int, str]]:
-    try:
-        text = _text(path)
-    except OSError as fault:
-        raise Refused(f"no settings: {path} can't be read: {fault.strerror}") from fault
-    return _of_text(text)
+    return _of_text(_text(path))
 
 
 def _of_text(text: str) -> list[tuple[int, str]]:
-    found = enumerate(text.split("\n"), 1)
-    return [(number, line) for number, line in found if line and not line.startswith("#")]
+    return [(number, line) for number, line in enumerate(text.split("\n"), 1)
+            if line and not line.startswith("#")]
 
 
-def _look_at_units(path: str, rows: list[tuple[int, str]]) -> None:
+# What systemd takes off the beginning of a value, and what goes on behind that.
+_QUOTED = re.compile(r"""([ \t\r]*('[^']*'|"([^"\\]|\\.)*"))*[ \t\r]*""")
+
+
+def _look_at_units(path: str, text: str) -> None:
     """systemd reads a room's file for its units by rules of its own: a quote goes on to the next
-    one, and a backslash at the end joins the next line."""
-    for number, line in rows:
-        value = line.partition("=")[2]
-        quote = value[:1]
-        if line.endswith("\\") or (quote in ("'", '"') and value.find(quote, 1) < 0):
+    one, and a backslash at the end, also of a comment, joins the next line."""
+    for number, line in enumerate(text.split("\n"), 1):
+        value = "" if line.startswith("#") else line.partition("=")[2]
+        if line.endswith("\\") or _QUOTED.sub("", value, count=1)[:1] in ("'", '"'):
             raise Refused(f"bad settings: {path}, line {number} goes on in the next one for "
                           "systemd: no backslash at the end, and no quote at the beginning alone")
 
@@ -331,7 +333,7 @@ def file_of(word: str) -> str:
 
 def room(word: str = "") -> Room:
     path = file_of(word)
-    _look_at_units(path, lines(path))
+    _look_at_units(path, _text(path))
     got = _of_room(path)
     got["UNIT"] = got["UNIT"] or f"rooms@{name_of(path)}"
     read = given(Room, path, got)
@@ -364,7 +366,7 @@ def look_at(path: str, text: str) -> None:
     kind, rows = kind_of(path), _of_text(text)
     got = values(path, known(kind), GONE if kind is Room else (), rows)
     if kind is not Front:
-        _look_at_units(path, rows)
+        _look_at_units(path, text)
     if "UNIT" in got:
         got["UNIT"] = got["UNIT"] or f"rooms@{name_of(path)}"
     given(kind, path, got)
@@ -377,7 +379,7 @@ def kept(path: str) -> Kept:
 
 def place(path: str) -> Place:
     is_elsewhere = path.endswith(".on")
-    _look_at_units(path, lines(path))
+    _look_at_units(path, _text(path))
     got = values(path, ELSEWHERE) if is_elsewhere else _of_room(path)
     need(got["PORT"] or not is_elsewhere, path, "PORT", "a port", "")
     return Place(name=name_of(path), **given(Place, path, got))
@@ -478,8 +480,7 @@ def directory(path: str) -> Directory:
 
 def groups(path: str) -> tuple[dict[str, str], int]:
     """Lines 'group NAME = WHAT', where WHAT is what the directory calls it; and MOST."""
-    found: dict[str, str] = {}
-    most = "10"
+    found, most = dict[str, str](), "10"
     for number, line in lines(path):
         if line.startswith("MOST="):
             most = line.removeprefix("MOST=")
