@@ -11,8 +11,8 @@ from .answers import Stop
 
 # Of one user, of all users, and how many of one user's may wait.
 RUNNING, RUNNING_ALL, WAITING = 2, 16, 14
-# Of those who go through folders, which takes memory, and of ZIPs, which may be taken slowly; and of
-# all that may take long, so that the rest has turns.
+# Of those who go through folders, which takes memory, and of ZIPs, which may be taken slowly; and
+# of all that may take long, so that the rest has turns.
 LONG, LONG_ALL, LONG_TOGETHER = 1, 4, 12
 PATIENCE = waits.ANSWER
 
