@@ -4,6 +4,7 @@ import json
 import os
 import time
 import unittest
+from typing import Any
 from unittest import mock
 
 from dated_door import NOW, Dated, Row, line
@@ -254,6 +255,43 @@ class Nights(Dated):
                 # Until the list of a copy that is made later.
                 self.night(F, A, B, at=at + (turn + 1) * 1_000_000)
                 self.assertEqual(self.copied("f/a"), [3], harm.__name__)
+
+    def test_a_clock_that_was_ahead(self) -> None:
+        now, year = time.time(), 365 * 86_400
+        tear = line("bob", "PUT", "/doc/f/z")[:50] + b"\n"
+
+        def clock(seconds: float) -> Any:
+            return mock.patch.object(time, "time", return_value=now + seconds)
+
+        def night(seconds: float) -> list[int | None]:
+            with clock(seconds):
+                self.night(F, A, B, at=int((now + seconds) * 1000) - 1000)
+                return self.copied("f/a")
+        self.rows()
+        self.assertEqual(night(year), [3])
+        # Nothing of a copy of then counts, nor what it hides: a change that nobody saw.
+        with clock(10):
+            self.assertEqual(self.copied("f/a"), [None])
+            self.add(tear)
+            self.assertEqual(self.copied("f/a"), [None])
+        self.assertEqual(night(20), [3])
+        # One that nobody saw then ends with the next night but one.
+        with clock(2 * year):
+            self.add(tear)
+            self.assertEqual(self.copied("f/a"), [None])
+        self.assertEqual([night(30), night(40)], [[None], [3]])
+        # A little before a copy of a clock that was set back since.
+        with clock(35):
+            self.add(tear)
+            self.assertEqual(self.copied("f/a"), [None])
+        # And changes count after a restore of then.
+        with clock(year):
+            self.tell({"number": 1, "at": int((now + year) * 1000), "restored": 0})
+            self.keeper.catch_up()
+        self.add(line("bob", "PUT", "/doc/f/b", 204, 7, at=now + 50))
+        with clock(60):
+            self.assertEqual(self.rows()["b"]["when"], int(now + 50))
+        self.assertEqual([night(70), night(80)], [[None], [3]])
 
     def test_words_that_are_none(self) -> None:
         self.add(line("bob", "PUT", "/doc/f/a", 204, 3))

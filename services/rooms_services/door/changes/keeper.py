@@ -20,7 +20,7 @@ from . import lines, nights
 from .changing import Changing
 from .journal import Journal
 from .nights import Night, NoList
-from .store import GAP, Inside, Known, Newest, Store
+from .store import Inside, Known, Newest, Store
 
 # Between two looks at the journal; and how long somebody who asks waits for what isn't taken yet.
 TICK, PATIENCE = 2.0, 0.5
@@ -145,7 +145,7 @@ class Keeper:
         """Where the machine ended without a word, the disk may lack lines that nginx wrote."""
         if self._mark and not os.path.lexists(self._mark):
             if not store.told(STOPPED):
-                store.keep_told(GAP, str(int(time.time() * 1000)))
+                store.note_gap(int(time.time() * 1000))
             os.close(os.open(self._mark, os.O_CREAT | os.O_WRONLY, 0o600))
         store.keep_told(STOPPED, "")
 
@@ -275,7 +275,7 @@ class Keeper:
     def _note_gap(self, store: Store) -> None:
         now = int(time.time() * 1000)
         store.doubt(now)
-        store.keep_told(GAP, str(now))
+        store.note_gap(now)
 
     def _change_file(self, store: Store) -> None:
         """What was taken is on the disk before the lines go."""

@@ -17,7 +17,7 @@ from typing import IO
 from ...room.answers import Stop
 from ...room.paths import LONGEST_NAME, names_in
 from ...room.room import USER
-from .store import COPY, GAP, ROOT, OfCopy, Store
+from .store import ROOT, OfCopy, Store, ahead
 
 NIGHT, WORDS, RESTORED = "night", "words", "restored"
 # Looked at in one go, while nobody is answered.
@@ -88,7 +88,7 @@ class Night:
             store.drop_ahead()
             store.forget_unused()
             store.keep_told(NIGHT, self.mark)
-            store.keep_told(COPY, str(self.at))
+            store.note_copy(self.at)
             return False
         return True
 
@@ -129,8 +129,10 @@ def night_of(place: str, store: Store) -> Night | None:
 
 
 def restored(store: Store) -> int:
-    """The moment of the last restore, in milliseconds: what was before was of another room."""
-    return int(store.told(RESTORED) or 0)
+    """The moment of the last restore, in milliseconds: what was before was of another room. Where
+    that is ahead, the clock was set back since, and what was before is taken."""
+    at = int(store.told(RESTORED) or 0)
+    return at if at <= ahead() else 0
 
 
 def mark_of(place: str) -> str:
@@ -166,4 +168,4 @@ def _take_word(store: Store, at: int, word: dict[str, object]) -> None:
     elif "restored" in word:
         store.go_back(int(str(word["restored"])))
         store.keep_told(RESTORED, str(at))
-        store.keep_told(GAP, str(at))
+        store.note_gap(at)

@@ -78,7 +78,8 @@ class AtNight(NamedTuple):
     sum: bytes | None
 
 
-def _ahead() -> int:
+def ahead() -> int:
+    """What is later than that was told by a clock that was wrong."""
     return int(time.time() * 1000) + AHEAD
 
 
@@ -360,19 +361,33 @@ class Store:
             (one, since)).fetchone() is not None
 
     def vouched(self) -> int | None:
-        """The moment of that copy, if each change since then is known."""
-        copy, gap = int(self.told(COPY) or 0), int(self.told(GAP) or 0)
-        return copy if copy > gap else None
+        """The moment of that copy, if each change since then is known. What a clock said that was
+        wrong can't be compared."""
+        copy, gap = self._moment(COPY), self._moment(GAP)
+        return copy if gap < copy <= ahead() else None
+
+    def _moment(self, what: str) -> int:
+        return int(self.told(what) or 0)
+
+    def note_gap(self, now: int) -> None:
+        """Until now a change may not have been seen. (The clock may have been set back a little.)"""
+        copy = self._moment(COPY)
+        self.keep_told(GAP, str(max(now, copy) if copy <= ahead() else now))
+
+    def note_copy(self, at: int) -> None:
+        """A list was taken whole. A gap that is ahead came before: until now, at the latest."""
+        self.keep_told(COPY, str(at))
+        self.keep_told(GAP, str(min(self._moment(GAP), int(time.time() * 1000))))
 
     def drop_ahead(self) -> None:
         """Dates of a clock that was wrong."""
-        self._db.execute("UPDATE node SET at = NULL, who = NULL WHERE at > ?", (_ahead(),))
+        self._db.execute("UPDATE node SET at = NULL, who = NULL WHERE at > ?", (ahead(),))
 
     # What is asked
 
     def children(self, names: Names) -> dict[str, Known]:
         """Of what something is known."""
-        folder, now = self.find(names), _ahead()
+        folder, now = self.find(names), ahead()
         return {name: _known(is_folder, size, at, who, before, now)
                 for name, is_folder, size, at, who, before in self._db.execute(
                     "SELECT node.name, folder, size, at, who.name, before FROM node LEFT JOIN who "
@@ -387,7 +402,7 @@ class Store:
 
     def newest(self, folder: int, after: tuple[int, int] | None, most: int) -> list[Newest]:
         """The documents in a folder, from the newest on, behind that moment and number."""
-        now = _ahead()
+        now = ahead()
         at, last = after or (now, 0)
         return [Newest(one, name, _known(0, size, when, who, None, now))
                 for one, name, size, when, who in self._db.execute(
