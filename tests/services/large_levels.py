@@ -3,8 +3,8 @@ has access' and with each list of docs/lists.md, as the room itself answers thro
 
     large_levels.py ROOM-SOCKET DOOR-SOCKET
 
-Each is asked for the same of both, and the answers have to be the same. Then everybody has to have
-the same rights to all that the large one consists of."""
+Each is asked for the same of both, and the answers have to be the same, and those of the table in
+docs/large.md. Then everybody has to have the same rights to all that the large one consists of."""
 import http.client
 import itertools
 import json
@@ -18,9 +18,15 @@ ALL = "rwanNxDtThHdcCoy"
 MANAGE, KEEP, OWN = f"A:fd:alice:{ALL}", "D:d:EVERYONE@:Dd", "A:fi:OWNER@:d"
 SMALL, LARGE = b"small", bytes(range(256)) * 6000
 USERS = ("alice", "bob", "pat", "erin", "ella", "clara", "ivan", "petra", "zoe")
-# Who asks, and whose the document is beside their own.
-ASKING = {"policies": "bob", "minutes": "bob", "letters": "bob", "bob": "bob", "inbox": "bob",
+# Who asks beside bob, who is staff, and whose the document is beside their own.
+ASKING = {"policies": "bob", "minutes": "bob", "letters": "bob", "bob": "bob", "inbox": "clara",
           "personnel": "petra", "handbook": "erin", "drafts": "ivan"}
+# The levels as the page calls them, and whom the table means beside those who are staff.
+LEVELS = {"Can read": "read", "Can add": "add", "Can put in": "drop",
+          "Can add and change": "change", "Can add, change and remove": "remove",
+          "Can manage": "manage"}
+GROUPS = {"interns": "ivan", "editors": "erin", "clerks": "clara"}
+WORDS = ("upload", "read", "replace", "rename", "move", "remove", "share", "give")
 ABOVE = os.path.dirname(os.path.dirname(os.path.dirname(os.path.abspath(__file__))))
 
 
@@ -52,6 +58,23 @@ def read(name: str) -> str:
         return source.read()
 
 
+def wanted() -> dict[tuple[str, str], dict[str, str]]:
+    """By what a setup is called and who asks: whose documents each word is allowed for."""
+    found: dict[tuple[str, str], dict[str, str]] = {}
+    rows = re.findall(r"^\| (Can [^|]*) \|(.*)\|$", read("docs/large.md"), re.MULTILINE)
+    for named, cells in rows:
+        upload, seen, replace, move, remove, share = [one.strip() for one in cells.split("|")]
+        allowed = dict(zip(WORDS, (upload, seen, replace, move, move, remove, share, share),
+                           strict=True))
+        level, *rest = re.split(r", (?=`)", named)
+        found[f"level {LEVELS[level]}", "bob"] = allowed
+        for name, group in re.findall(r"`/(\w+)`(?: for (\w+))?", ", ".join(rest)):
+            who = GROUPS[group] if group else "petra" if name == "personnel" else "bob"
+            found[f"/{name}", who] = allowed
+    assert len(found) == len(LEVELS) + 11, found
+    return found
+
+
 def setups() -> Iterator[tuple[str, str, str]]:
     """A name, the list of a folder, and who asks."""
     forms = json.loads(read("web/tables/level_forms.js").partition("LEVEL_FORMS = ")[2]
@@ -61,10 +84,14 @@ def setups() -> Iterator[tuple[str, str, str]]:
         has_head = level in ("remove", "manage", "clear")
         rows = [MANAGE, *lines, KEEP] if has_head else [MANAGE, KEEP, *lines]
         yield f"level {level}", "\n".join(["list:ap", *rows, *[OWN] * (level == "change")]), "bob"
-    for name, text in re.findall(r"rooms reset office.rooms /(\w+) dacl <<END\n(.*?)END",
-                                 read("docs/lists.md"), re.DOTALL):
+    lists = re.findall(r"rooms-admin list set /(\w+) <<END\n(.*?)END", read("docs/lists.md"),
+                       re.DOTALL)
+    assert {name for name, _ in lists} >= set(ASKING), lists
+    for name, text in lists:
+        if name not in ASKING:
+            continue
         for who in dict.fromkeys((ASKING[name], "bob", "clara")):
-            yield f"/{name} ({who})", text, who
+            yield f"/{name}", text, who
         if name == "inbox":
             yield "/inbox with A:fi:OWNER@:rt", f"{text}A:fi:OWNER@:rt\n", "bob"
 
@@ -111,8 +138,8 @@ class Played:
                 for one in listed if one["name"] == name or one["name"].startswith(f"{name}~")
                 for target in [f"/can/{self.folder}/{one['name']}?rwadcCot"]}
 
-    def one(self, what: str, word: str, who: str, maker: str) -> str:
-        """A word where the two differ."""
+    def one(self, what: str, word: str, who: str, maker: str, allowed: str) -> str:
+        """A word where the two differ, or aren't as the page says."""
         said = []
         name = f"d{next(self.number)}"
         for data in (SMALL, LARGE):
@@ -124,19 +151,24 @@ class Played:
                 rights = self.rights(own)
                 if len(set(map(frozenset, rights.values()))) > 1:
                     return f"{what}: {word} by {who} of {maker}'s: rights {rights}"
-        return "" if said[0] == said[1] else f"{what}: {word} by {who} of {maker}'s: {said}"
+        may = allowed in ("yes", "all") or allowed == "own" and who == maker
+        is_so = said[0] == said[1] and (not allowed or may == (said[0] < 300))
+        return "" if is_so else f"{what}: {word} by {who} of {maker}'s: {said}, {allowed}"
 
 
 def main() -> int:
     room, door = sys.argv[1:]
     found = []
     count = 0
+    table = wanted()
     for number, (what, text, who) in enumerate(setups()):
         played = Played(room, door, f"p{number}", text)
-        for word in ("upload", "read", "replace", "rename", "move", "remove", "share", "give"):
+        allowed = table.pop((what, who), {})
+        for word in WORDS:
             for maker in dict.fromkeys((who, "pat", "alice")):
                 count += 1
-                found.append(played.one(what, word, who, maker))
+                found.append(played.one(what, word, who, maker, allowed.get(word, "")))
+    assert not table, table
     for one in filter(None, found):
         print(one)
     print(f"{count} compared, {len(list(filter(None, found)))} differ")

@@ -146,6 +146,30 @@ class Damaged(Large):
             self.assertEqual(self.got(), 409)
         self.assertEqual(self.put(data_of(4 * SMALL, 2), match="*"), 204)
 
+    def test_a_part_that_is_longer_than_said(self) -> None:
+        """The last one alone can be. No byte of it is told."""
+        self.put(self.data + b"end", path="p/x")
+        self.judged.does("pat", "PUT", f"/doc/p/x{in_parts.MARK}0005", b"end and more")
+        with self.assertRaises(http.client.IncompleteRead) as cut:
+            self.ask("GET", "/door/doc/p/x", user="bob")
+        self.assertEqual(cut.exception.partial, self.data)
+
+    def test_a_list_of_parts_of_1_mib(self) -> None:
+        """It is a document, whatever it begins with; and one of very many parts is no list of what
+        isn't there."""
+        good = in_parts.read(self.judged.bytes_at("p", "d"))
+        assert good
+        long = good._replace(size=9999 * SMALL, parts=tuple(
+            (number, good.digest) for number in range(1, 10_000))).text()
+        for text in (good.text()[:-1].ljust(1 << 20, b" "), b'{"bytes":' + b"9" * (1 << 20),
+                     good.text().replace(b'"parts":[', b'"parts":[' + b"[]," * 300_000)):
+            self.judged.does("pat", "PUT", "/doc/p/x", text)
+            self.assertEqual(self.got(path="p/x"), text)
+        self.judged.does("pat", "PUT", "/doc/p/x", long)
+        self.judged.seen.clear()
+        self.assertEqual(self.got(path="p/x"), 409)
+        self.assertLess(len(self.judged.seen), 10)
+
     def test_one_in_the_middle_breaks_it_off(self) -> None:
         self.judged.does("pat", "PUT", f"/doc/p/d{in_parts.MARK}0003", b"other")
         with self.assertRaises(http.client.IncompleteRead):
