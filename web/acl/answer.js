@@ -13,7 +13,8 @@
 import { ANY_OTHER } from './callers.js';
 import { UNNAMED, imagined } from './question.js';
 
-export const [BEFORE, AFTER] = [0, 1];
+export const BEFORE = 0;
+export const AFTER = 1;
 // A row that says of all callers that it isn't known.
 const NOT_KNOWN = '?';
 
