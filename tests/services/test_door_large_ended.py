@@ -168,7 +168,22 @@ class Damaged(Large):
         self.judged.does("pat", "PUT", "/doc/p/x", long)
         self.judged.seen.clear()
         self.assertEqual(self.got(path="p/x"), 409)
-        self.assertLess(len(self.judged.seen), 10)
+        self.assertLess(len(self.judged.seen), 70)
+
+    def test_very_many_parts(self) -> None:
+        """Between its rows the room answers others."""
+        part, count = b"x" * SMALL, 300
+        for number in range(1, count + 1):
+            self.judged.does("pat", "PUT", f"/doc/p/x{in_parts.end_of(number)}", part)
+        whole = in_parts.Sum()
+        whole.add(part * count)
+        self.judged.does("pat", "PUT", "/doc/p/x", in_parts.Manifest(
+            count * SMALL, whole.digest, tuple((number, in_parts.digest_of(part))
+                                               for number in range(1, count + 1))).text())
+        self.judged.connections.clear()
+        self.assertEqual(self.got(path="p/x"), part * count)
+        self.assertEqual(self.put(data_of(4 * SMALL, 2), path="p/x", match="*"), 204)
+        self.assertLessEqual(max(self.judged.connections), 64)
 
     def test_one_in_the_middle_breaks_it_off(self) -> None:
         self.judged.does("pat", "PUT", f"/doc/p/d{in_parts.MARK}0003", b"other")

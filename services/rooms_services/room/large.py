@@ -7,7 +7,7 @@ from rooms_admin.room.in_parts import Manifest
 
 from .answers import Stop
 from .paths import LONGEST_NAME, LONGEST_PATH, Names, shown
-from .room import Ask, Reply, about, listed
+from .room import Ask, Reply, Room, about, listed
 
 Asks = Callable[[Ask], Reply]
 
@@ -53,6 +53,25 @@ def of(ask: Asks, names: Names, body: bytes) -> Manifest | None:
     if found and not all(is_there(ask, part(names, number)) for number, _ in found.parts):
         raise not_whole(names)
     return found
+
+
+def refuse_broken(room: Room, user: str, names: Names, manifest: Manifest) -> None:
+    """The same by rows, between which the room answers others: somebody may have made very many."""
+    for reply in room.ask_each(user, (about("GET", "can", part(names, number))
+                                      for number, _ in manifest.parts)):
+        if reply.status != 200:
+            raise not_whole(names)
+
+
+def count_by_rows(room: Room, user: str, names: Names) -> int:
+    """As `count`."""
+    number = 0
+    for reply in room.ask_each(user, (about("GET", "can", part(names, one))
+                                      for one in range(1, in_parts.MOST + 1))):
+        if reply.status != 200:
+            break
+        number += 1
+    return number
 
 
 def not_whole(names: Names) -> Stop:

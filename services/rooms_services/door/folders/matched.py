@@ -86,11 +86,13 @@ def read(room: Room, would: Would, user: str, route: str, names: Names, wanted: 
         reply = talk.ask(about("GET", route, names))
         if reply.status != 200:
             return reply.answer()
-        found = large.of(talk.ask, names, reply.body) if route == "doc" else None
+        found = in_parts.read(reply.body) if route == "doc" else None
         tag = found.tag if found else tag_of(reply.body)
         status = of_reading(wanted.match, wanted.none, tag)
         if status == 412:
             raise _changed(talk, names, "changed", tag)
+    if found:
+        large.refuse_broken(room, user, names, found)
     fields = {"ETag": tag, **SAFE}
     if status == 304:
         return Answer(304, fields=fields)

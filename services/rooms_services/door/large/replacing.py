@@ -91,7 +91,9 @@ class Writing:
             raise Stop(413, "too-large", "a document of too many parts")
         with self.room.talk(self.user) as talk:
             before = self.look(talk)
-            count = large.count(talk.ask, self.names)
+        # (most are new, and have none)
+        is_any = large.is_there(self._ask, large.part(self.names, 1))
+        count = large.count_by_rows(self.room, self.user, self.names) if is_any else 0
         if before is None and count:
             raise Stop(409, "left-over", "parts of an upload that was broken off are there",
                        shown(self.names))
