@@ -81,6 +81,24 @@ class Large(Searching):
         self.assertEqual((said["found"], said["without"]), ([], 1))
         self.assertEqual(self.found("eine zeile"), {"/f/plan": 901})
 
+    def test_nothing_tells_what_is_in_a_closed_part(self) -> None:
+        """Neither the answer nor what is asked for it."""
+        self.make_night()
+        self.room.denied.add(("bob", f"/f/plan{in_parts.MARK}0002", "r"))
+        said = [(self.asked(words, "bob"), self.search(words, user="bob")[1])
+                for words in ("zeile", "unsinnwort")]
+        self.assertEqual(said[0], said[1])
+
+    def test_a_list_of_parts_that_somebody_copied(self) -> None:
+        """Who has that, and no bytes of the document, doesn't learn that it is there."""
+        self.room.make(g=None, g__copy=self.room.objects["f", "plan"])
+        for number in range(1, 30):
+            self.room.objects["g", "copy" + in_parts.end_of(number)] = b""
+        for turn in range(2):
+            self.make_night(time.time() + 1 + turn)
+            self.assertEqual(self.found("zeile"), {"/f/plan": 900})
+            self.assertEqual(self.without(), [["broken", "/g/copy"]])
+
     def test_one_that_changed_by_day(self) -> None:
         self.make_night()
         self.put("plan", papers.docx(["ein Nachtrag", *LINES]))

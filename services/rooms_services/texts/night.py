@@ -99,6 +99,19 @@ def _whole(room: sqlite3.Connection, data: bytes, manifest: Manifest | None, nam
     return whole
 
 
+def _sum(one: Document) -> bytes:
+    """By which its text is known, if it is whole. A list of parts alone gives nobody a text: its
+    parts may be somebody else's."""
+    total = sum_of(one.data)
+    if one.manifest is None or one.is_too_large:
+        return total
+    try:
+        one.whole()
+    except ValueError:
+        return sum_of(b"not whole" + total)
+    return total
+
+
 def _path(above: dict[int, tuple[int, str]], up: int, name: str) -> str:
     parts = [name]
     while up and up in above:
@@ -148,7 +161,7 @@ class Night:
             with ThreadPoolExecutor(AT_ONCE) as pool:
                 before = last.by_sum() if last and last.reader == VERSION else {}
                 for one in documents(file):
-                    total = sum_of(one.data)
+                    total = _sum(one)
                     making.note(one.number, total)
                     self._sums.append((one.path, total))
                     if making.has(total):
@@ -200,7 +213,7 @@ class Night:
         """One after the other. Those of which it isn't the turn are scans in the next night too."""
         until = time.monotonic() + self._scans
         for one in documents(file) if self._scans else ():
-            total = sum_of(one.data)
+            total = _sum(one)
             if making.state(total) is not State.NONE:
                 continue
             try:

@@ -19,14 +19,14 @@ from ...room import large
 from ...room.answers import Answer, Stop, told
 from ...room.parts import Parts, joined
 from ...room.paths import Names
-from ...room.room import Ask, Reply, Room, about
+from ...room.room import Ask, Reply, Room
 from ...texts.extract import LARGEST
 from ...texts.folding import words_of
 from ...texts.sink import State
 from ...texts.store import sum_of
 from ..changes.keeper import Keeper, Unknown
 from ..folders.find import text_of
-from ..folders.walk import Node, Step, Walk, refuse_long, top_of
+from ..folders.walk import MOST, Node, Step, Walk, refuse_long, top_of
 from .asking import Asking, Found, no_texts
 from .reading import Read, Reading
 
@@ -70,6 +70,10 @@ class Search:
         self.readable: list[Node] = []
         self.can_folder = Step("can", "rx", self._folder)
         self.can_document = Step("can", "r", self._document)
+        self.can_part = Step("can", "r", self._part)
+        # Whose parts are asked about, and documents of which one is closed.
+        self.of_part: dict[Node, bytes] = {}
+        self.closed: set[tuple[Node | None, bytes]] = set()
         self.list = Step("folder", "", self._children)
         self.unread = self.without = 0
         # In milliseconds, before the room was asked.
@@ -78,9 +82,14 @@ class Search:
     # What the caller may list and read
 
     def _children(self, node: Node, reply: Reply) -> None:
-        if node.is_open:
-            for child in self.walk.children(node, reply):
-                self.walk.ask(self.can_folder if child.is_folder else self.can_document, child)
+        if not node.is_open or reply.status != 200:
+            return
+        # (parts first: whether one is closed is known before what it is of is asked about)
+        for part, whole in large.hidden_in(reply.body, MOST + 1).items():
+            self.of_part[one := Node(part, False, node)] = whole
+            self.walk.ask(self.can_part, one)
+        for child in self.walk.children(node, reply):
+            self.walk.ask(self.can_folder if child.is_folder else self.can_document, child)
 
     def _folder(self, node: Node, reply: Reply) -> None:
         may = reply.rulings()
@@ -88,8 +97,18 @@ class Search:
         if may.get("r") and node.is_open:
             self.walk.ask(self.list, node)
 
+    def _part(self, part: Node, reply: Reply) -> None:
+        whole = self.of_part.pop(part)
+        if not reply.rulings().get("r"):
+            self.closed.add((part.above, whole))
+
     def _document(self, node: Node, reply: Reply) -> None:
-        if reply.rulings().get("r"):
+        """One in parts has no text for who may not read one of them, whatever is in it."""
+        if not reply.rulings().get("r"):
+            return
+        if (node.above, node.name) in self.closed:
+            self.without += 1
+        else:
             self.readable.append(node)
 
     # What is in it
@@ -153,7 +172,7 @@ class Search:
 
     def _hits(self, known: dict[int, Node], found: Found) -> list[Hit]:
         """How often, and then by name: of each document alone."""
-        self.without = found.empty
+        self.without += found.empty
         hits = [Hit(known[number], count, number) for number, count in found.counts.items()
                 if count > 0]
         changed = self.readable + [known[number] for number in sorted(found.unknown)]
@@ -214,10 +233,12 @@ class Search:
             [hit.number for hit in of_night if hit.number is not None])))
         bodies = dict(self._bodies([hit.node for hit in of_night]))
         is_same = {node: sum_of(body) == sums[node] for node, body in bodies.items()}
-        manifests = {hit: found for hit in of_night
-                     if (found := in_parts.read(bodies.get(hit.node, b"")))}
-        for hit, manifest in manifests.items():
-            self._look_at_parts(hit, manifest, is_same[hit.node])
+        manifests = [hit for hit in of_night if in_parts.read(bodies.get(hit.node, b""))]
+        for hit in manifests:
+            # Its list of parts says that it is still the same; all of it isn't read for that.
+            if not is_same[hit.node]:
+                hit.count = 0
+                self.unread += 1
         again = [hit for at, hit in enumerate(first)
                  if hit.node in bodies and hit not in manifests
                  and (at < WITH_TEXT or not is_same[hit.node])]
@@ -231,19 +252,6 @@ class Search:
             hit.number is None or hit.node in bodies)]
         return (sorted(shown, key=lambda hit: (-hit.count, hit.node.path)),
                 len(hits) <= SHOWN and len(bodies) == len(of_night))
-
-    def _look_at_parts(self, hit: Hit, manifest: Manifest, is_same: bool) -> None:
-        """Its list of parts says that it is still the same; all of it isn't read for that. It has
-        no text for who may not read a part."""
-        names = _names(hit.node)
-        may = self.room.ask_each(self.user, (
-            about("GET", "can", large.part(names, number), "r") for number, _ in manifest.parts))
-        if not is_same:
-            hit.count = 0
-            self.unread += 1
-        elif not all(one.rulings().get("r") for one in may):
-            hit.count = 0
-            self.without += 1
 
     # One document
 
