@@ -4,6 +4,7 @@ import { endsAll, interruptionsSeen, isUnanswered } from '../net/retry.js';
 import * as api from '../net/api.js';
 import { texts } from '../language/language.js';
 import { button } from '../ui/dom.js';
+import { DOCUMENT_OF_ROOM } from '../net/large.js';
 import { documentLine, faultOf, normal, treeLine } from './jobs.js';
 import { tell, tellFault } from '../ui/messages.js';
 import { newPanel } from '../ui/panel.js';
@@ -54,6 +55,8 @@ class Upload {
     this.jobs = this.lines.flatMap(({ jobs }) => jobs);
     this.lineOf = new Map(this.lines.flatMap((line) => line.jobs.map((job) => [job, line])));
     this.ask = askingInTurn(this.jobs.length);
+    /** @type {Promise<any>} */
+    this.large = Promise.resolve();
     this.close = button(texts.acts.close, () => this.panel.remove(),
       { class: 'small', hidden: true });
     this.again = button(texts.acts.tryAgain, () => asWork(this.run()),
@@ -112,10 +115,23 @@ class Upload {
       return this.set(job, LEFT);
     }
     this.set(job, { state: 'runs', allowed: true });
-    const made = await putSafely(job, job.isThere === true, this.ask, (sent, whole) =>
-      this.set(job, { part: whole === 0 ? 1 : sent / whole }), this.stopping.signal);
+    const made = await this.afterLarge(job, () =>
+      putSafely(job, job.isThere === true, this.ask, (sent, whole) =>
+        this.set(job, { part: whole === 0 ? 1 : sent / whole }), this.stopping.signal));
     this.set(job, made === null ? LEFT : { state: 'good', made });
     return this.onSome();
+  }
+
+  // Large ones go one after the other: nginx refuses a third of one user, and the door takes one.
+  async afterLarge({ path, file }, send) {
+    if (file.size <= DOCUMENT_OF_ROOM) return send();
+    const before = this.large;
+    const sent = before.then(() => {
+      if (!this.isStopped) return send();
+      throw new api.Refusal(api.STOPPED, null, { method: 'PUT', word: 'doc', path });
+    });
+    this.large = sent.catch(() => {});
+    return sent;
   }
 
   // The rest isn't sent, and can be later.
