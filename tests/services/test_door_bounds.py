@@ -18,7 +18,7 @@ from rooms_services.room import answers, room
 from rooms_services.room.answers import Stop
 from rooms_services.room.room import listed
 from rooms_services.door.folders import archive, walk, zipped
-from rooms_services.door.webdav import dates, looking
+from rooms_services.door.webdav import dates, looking, trees
 
 MEGABYTE = 1 << 20
 
@@ -109,6 +109,21 @@ class Memory(Over):
         taken = tracemalloc.get_traced_memory()[0]
         tracemalloc.stop()
         self.assertLess(taken * dates.MOST // 5000, 16 * MEGABYTE)
+
+    def test_a_folder_that_is_removed_far_down(self) -> None:
+        """Ten thousand paths of two thousand names would be 160 MB, twice."""
+        self.room.make(f=None)
+        above: tuple[str, ...] = ("f",)
+        for _ in range(40):
+            above = (*above, "x")
+            self.room.objects[above] = None
+        for number in range(60):
+            self.room.objects[(*above, str(number))] = b""
+        for method in ("DELETE", "COPY"):
+            with mock.patch.object(trees, "MOST_NAMES", 40 * 50):
+                self.assertEqual(self.ask(method, "/drive/f", Destination="/drive/g")[0], 403)
+        self.assertEqual(self.ask("DELETE", "/drive/f")[0], 204)
+        self.assertEqual(set(self.room.objects), {self.above[:depth] for depth in range(15)})
 
     def test_signs(self) -> None:
         """What they are compared as is remembered, and there are more than a million."""

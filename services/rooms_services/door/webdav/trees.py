@@ -10,7 +10,9 @@ from ...room.room import Reply, about
 from ..folders.goes import barrier
 from .objects import Asks, children_of, length_of_lists, stop_of
 
-MOST = 10_000
+# Objects, and the names in all of their paths: of ten thousand at the deepest one there may be
+# twenty million.
+MOST, MOST_NAMES = 10_000, 1_000_000
 Failure = tuple[Names, bool, int, str]
 # What is called with how many bytes an object takes, before it is made.
 Spend = Callable[[int], None]
@@ -33,6 +35,7 @@ class Found:
 
 def walk(by: Asks, top: Names) -> Found:
     found = Found([(top, True)], [])
+    count = 0
     level = [top]
     while level:
         below: list[Names] = []
@@ -43,13 +46,19 @@ def walk(by: Asks, top: Names) -> Found:
                 continue
             for child in children_of(reply, MOST):
                 found.objects.append((names + (child.name,), child.folder))
+                count += len(names)
+                if count > MOST_NAMES:
+                    raise _too_many()
                 if child.folder:
                     below.append(names + (child.name,))
             if len(found.objects) > MOST:
-                raise Stop(403, "too-many",
-                           f"more than {MOST} documents and folders: do it in parts")
+                raise _too_many()
         level = below
     return found
+
+
+def _too_many() -> Stop:
+    return Stop(403, "too-many", f"more than {MOST} documents and folders: do it in parts")
 
 
 def kept(by: Asks, objects: list[tuple[Names, bool]]) -> list[Failure]:
