@@ -13,6 +13,7 @@ from large_over import ADD, DROP, KEEP, MANAGE, READ, SMALL, Large, data_of, tag
 from rooms_admin.room import in_parts
 from rooms_admin.room.in_parts import LARGEST
 from rooms_services.door.large import replacing
+from rooms_services.room import large
 from rooms_services.room import parts
 
 
@@ -354,6 +355,31 @@ class Together(Large):
     def test_removed_after_somebody_else_replaced_it(self) -> None:
         self.put(data_of(4 * SMALL, 2), "bob", match="*")
         self.assertEqual(self.ask("DELETE", "/door/object/p/d", user="pat")[0], 204)
+        self.assertEqual(self.judged.names("p"), [])
+
+    def test_removed_beside_what_somebody_laid_there(self) -> None:
+        """By its name it looks like a part, and it stays as it is."""
+        name = f"d{in_parts.end_of(len(self.parts()) + 1)}"
+        self.judged.does("ella", "PUT", f"/doc/p/{name}", b"mine")
+        self.assertEqual(self.ask("DELETE", "/door/object/p/d", user="pat")[0], 204)
+        self.assertEqual(self.judged.names("p"), [name])
+        self.assertEqual(self.judged.bytes_at("p", name), b"mine")
+
+    def test_others_are_answered_in_between(self) -> None:
+        """Where there are very many parts."""
+        text = f"list:p A::alice:{ALL} A::pat:rwaxtcd A::bob:r".replace(" ", "\n")
+        with mock.patch.object(large, "HELD", 5):
+            for method, target, body, fields in (
+                    ("PUT", "/door/dacl/p/d", text, {"If-Match": "*"}),
+                    ("PUT", "/door/attr/p/d", '{"owner":"pat","group":"staff"}', {}),
+                    ("POST", "/door/move/p/d", '{"to":"/p/e"}', {}),
+                    ("DELETE", "/door/object/p/e", "", {})):
+                self.judged.connections.clear()
+                status, _, _ = self.ask(method, target, body, "alice", **{
+                    name.replace("-", "_"): value for name, value in fields.items()})
+                self.assertEqual(status, 204, target)
+                self.assertGreater(len(self.judged.connections), 2, target)
+                self.assertLess(max(self.judged.connections), 15, target)
         self.assertEqual(self.judged.names("p"), [])
 
     def move(self, to: str, user: str) -> int:

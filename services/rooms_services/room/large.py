@@ -1,6 +1,6 @@
 """Documents of more than 1 MiB, which the room keeps in parts (rooms_admin/room/in_parts.py), by
 the room's own requests."""
-from collections.abc import Callable
+from collections.abc import Callable, Iterable, Iterator
 
 from rooms_admin.room import in_parts
 from rooms_admin.room.in_parts import Manifest
@@ -10,6 +10,10 @@ from .paths import LONGEST_NAME, LONGEST_PATH, Names, shown
 from .room import Ask, Reply, Room, about, listed
 
 Asks = Callable[[Ask], Reply]
+# Lets others ask the room, where what belongs together is asked over one connection.
+Rest = Callable[[], None]
+# After so many: more than a document of 200 MB has. Somebody may have made very many by hand.
+HELD = 512
 
 
 def part(names: Names, number: int) -> Names:
@@ -38,12 +42,20 @@ def is_there(ask: Asks, names: Names) -> bool:
     return ask(about("GET", "can", names)).status == 200
 
 
-def count(ask: Asks, names: Names) -> int:
+def count(ask: Asks, names: Names, rest: Rest | None = None) -> int:
     """How many parts lie beside it, numbered from 1 on."""
     number = 0
-    while number < in_parts.MOST and names and is_there(ask, part(names, number + 1)):
-        number += 1
+    for number in resting(range(1, in_parts.MOST + 1), rest):
+        if not names or not is_there(ask, part(names, number)):
+            return number - 1
     return number
+
+
+def resting(numbers: Iterable[int], rest: Rest | None) -> Iterator[int]:
+    for place, number in enumerate(numbers, 1):
+        yield number
+        if rest and place % HELD == 0:
+            rest()
 
 
 def of(ask: Asks, names: Names, body: bytes) -> Manifest | None:

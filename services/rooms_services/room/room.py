@@ -191,34 +191,55 @@ Note = Callable[[str, Ask, int | None], None]
 
 
 class Talk:
-    """One connection, in the name of one user: each answer is waited for before more is sent."""
+    """One connection, in the name of one user: each answer is waited for before more is sent, and
+    nobody comes between."""
 
-    def __init__(self, at: socket.socket, user: str, most: int, note: Note | None = None) -> None:
-        self._at = at
+    def __init__(self, room: "Room", user: str) -> None:
+        self._room = room
         self._user = user
-        self._most = most
-        self._note = note
-        self._lines = at.makefile("rb")
+        self._at: socket.socket | None = None
         # How many bytes the room has answered.
         self.taken = 0
+        self._open()
+
+    def _open(self) -> None:
+        self._room.take()
+        try:
+            self._at = self._room.connected()
+            self._at.settimeout(self._room.seconds)
+            self._lines = self._at.makefile("rb")
+        except BaseException:
+            self._room.give()
+            raise
 
     def close(self) -> None:
         """Else the connection is open, and the room answers nobody, as long as this is known."""
-        self._lines.close()
+        if self._at:
+            self._lines.close()
+            self._at.close()
+            self._at = None
+            self._room.give()
+
+    def rest(self) -> None:
+        """Others are answered before the next question, where very many belong together."""
+        self.close()
+        self._open()
 
     def ask(self, ask: Ask) -> Reply:
-        if ask.method == "GET" or self._note is None:
+        if ask.method == "GET" or self._room.note is None:
             return self._asked(ask)
-        self._note(self._user, ask, None)
+        note = self._room.note
+        note(self._user, ask, None)
         status = 0
         try:
             reply = self._asked(ask)
             status = reply.status
             return reply
         finally:
-            self._note(self._user, ask, status)
+            note(self._user, ask, status)
 
     def _asked(self, ask: Ask) -> Reply:
+        assert self._at
         self._at.sendall(ask.message(self._user))
         line = self._lines.readline(1024)
         if not line.startswith(b"HTTP/1.1 "):
@@ -240,7 +261,7 @@ class Talk:
                 raise ConnectionError
             left -= len(part)
         # A room that was taken over would fill the memory.
-        if left > self._most:
+        if left > self._room.most:
             raise too_many()
         body = self._lines.read(left)
         if len(body) != left:
@@ -323,7 +344,7 @@ class Room:
         self.seconds = seconds
         self.most = most
         self.denials = Denials()
-        self._note = note
+        self.note = note
         self._turn = InTurn()
 
     def take(self) -> None:
@@ -355,16 +376,8 @@ class Room:
     @contextmanager
     def talk(self, user: str) -> Iterator[Talk]:
         """Nobody comes between what is asked here."""
-        self.take()
-        try:
-            with at_fault():
-                at = self.connected()
-                with at:
-                    at.settimeout(self.seconds)
-                    with closing(Talk(at, user, self.most, self._note)) as talk:
-                        yield talk
-        finally:
-            self.give()
+        with at_fault(), closing(Talk(self, user)) as talk:
+            yield talk
 
     def ask(self, user: str, ask: Ask) -> Reply:
         with self.talk(user) as talk:

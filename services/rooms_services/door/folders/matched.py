@@ -128,7 +128,7 @@ def tag_alone(room: Room, would: Would, user: str, route: str, names: Names, wan
     return read(room, would, user, route, names, wanted)
 
 
-Put = Callable[[large.Asks, str, Names, bytes], Reply]
+Put = Callable[[large.Asks, str, Names, bytes, large.Rest], Reply]
 
 
 def replace(room: Room, would: Would, user: str, route: str, names: Names, body: bytes,
@@ -138,7 +138,7 @@ def replace(room: Room, would: Would, user: str, route: str, names: Names, body:
         stopped = against(talk, route, names, condition)
         if stopped is not None:
             return stopped
-        reply = put(talk.ask, route, names, body)
+        reply = put(talk.ask, route, names, body, talk.rest)
         if reply.status != 204:
             return reply.answer()
         # It has by now what its folder passes down, too.

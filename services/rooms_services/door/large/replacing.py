@@ -14,7 +14,7 @@ from rooms_admin.room.in_parts import LARGEST, Manifest
 
 from ...room import large
 from ...room.answers import Answer, Stop
-from ...room.large import Asks
+from ...room.large import Asks, Rest
 from ...room.parts import Parts
 from ...room.paths import Names, shown
 from ...room.room import Ask, Reply, Room, Talk, about
@@ -253,19 +253,19 @@ class Writing:
             pass
 
 
-def empty(ask: Asks, names: Names, numbers: Iterable[int]) -> None:
+def empty(ask: Asks, names: Names, numbers: Iterable[int], rest: Rest | None = None) -> None:
     """What was replaced is gone. Whoever may write may do that."""
-    for number in sorted(numbers):
+    for number in large.resting(sorted(numbers), rest):
         ask(about("PUT", "doc", large.part(names, number)))
 
 
-def put_small(ask: Asks, names: Names, body: bytes) -> Reply:
+def put_small(ask: Asks, names: Names, body: bytes, rest: Rest | None = None) -> Reply:
     """One of at most 1 MiB. The parts of one that was there before stay, and are empty."""
     count = large.count(ask, names)
     filled = _filled(ask, names, count) if count else ()
     reply = ask(about("PUT", "doc", names, body=body))
     if reply.status in (201, 204):
-        empty(ask, names, filled)
+        empty(ask, names, filled, rest)
     return reply
 
 
@@ -308,7 +308,7 @@ def _small(room: Room, user: str, names: Names, body: bytes, condition: Conditio
         stopped = against(talk, "doc", names, condition)
         if stopped is not None:
             return stopped
-        reply = put_small(talk.ask, names, body)
+        reply = put_small(talk.ask, names, body, talk.rest)
     if reply.status not in (201, 204):
         return reply.answer()
     return Answer(reply.status, fields={"ETag": tag_of(body)})

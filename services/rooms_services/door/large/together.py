@@ -8,7 +8,7 @@ from rooms_admin.room import in_parts
 
 from ...room import large
 from ...room.answers import Answer, Stop
-from ...room.large import Asks
+from ...room.large import Asks, Rest
 from ...room.paths import Names, shown
 from ...room.room import Ask, Reply, Room, about
 from ..folders import matched
@@ -28,24 +28,25 @@ def _from_the_last(count: int) -> Iterator[int]:
     return iter(range(count, 0, -1))
 
 
-def remove(ask: Asks, names: Names) -> Reply:
-    """The parts first, so that none is left of what is gone. One that can't go is emptied."""
-    count = large.count(ask, names)
+def remove(ask: Asks, names: Names, rest: Rest | None = None) -> Reply:
+    """The parts first, so that none is left of what is gone. One of it that can't go is emptied."""
+    count = large.count(ask, names, rest)
     if count and _may_go(ask, names):
-        for number in _from_the_last(count):
+        used = _used(ask, names, count)
+        for number in large.resting(_from_the_last(count), rest):
             place = large.part(names, number)
-            if ask(about("DELETE", "object", place)).status != 204:
+            if ask(about("DELETE", "object", place)).status != 204 and number in used:
                 ask(about("PUT", "doc", place))
     return ask(about("DELETE", "object", names))
 
 
-def remove_left(ask: Asks, names: Names) -> Reply:
+def remove_left(ask: Asks, names: Names, rest: Rest | None = None) -> Reply:
     """Parts of nothing, which an upload left that was broken off: each as a document like any
     other."""
-    count = large.count(ask, names)
+    count = large.count(ask, names, rest)
     if not count or large.is_there(ask, names):
         raise Stop(404, "no-such", "no parts of an upload are left", shown(names))
-    for number in _from_the_last(count):
+    for number in large.resting(_from_the_last(count), rest):
         reply = ask(about("DELETE", "object", large.part(names, number)))
         if reply.status != 204:
             raise refused(reply, names, number)
@@ -58,16 +59,16 @@ def _may_go(ask: Asks, names: Names) -> bool:
     return own.status == above.status == 200 and not barrier(own.told, above.told)
 
 
-def move(ask: Asks, names: Names, to: Names) -> Reply:
+def move(ask: Asks, names: Names, to: Names, rest: Rest | None = None) -> Reply:
     """The document last: it is where it was until all of it is at the new place. What isn't of it,
     and has no more than the name of a part, stays where it may not be moved."""
-    count = large.count(ask, names) if names and to else 0
+    count = large.count(ask, names, rest) if names and to else 0
     if not count or not large.is_there(ask, names) or large.is_there(ask, to):
         return ask(moving(names, to))
     large.refuse_long_name(to)
     used = _used(ask, names, count)
     moved: list[int] = []
-    for number in (*_from_the_last(count), 0):
+    for number in large.resting((*_from_the_last(count), 0), rest):
         reply = ask(moving(_place(names, number), _place(to, number)))
         if reply.status == 204:
             moved.append(number)
@@ -75,7 +76,7 @@ def move(ask: Asks, names: Names, to: Names) -> Reply:
             break
     else:
         return reply
-    for back in reversed(moved):
+    for back in large.resting(reversed(moved), rest):
         ask(moving(large.part(to, back), large.part(names, back)))
     raise _said(reply, names, to, number)
 
@@ -100,13 +101,14 @@ def _said(reply: Reply, names: Names, to: Names, number: int) -> Stop:
     return stop
 
 
-def set_at_all(ask: Asks, route: str, names: Names, body: bytes) -> Reply:
+def set_at_all(ask: Asks, route: str, names: Names, body: bytes, rest: Rest | None = None
+               ) -> Reply:
     """A list, or owners: of the parts first. One at which the caller may not do it any more has it
     already, by a request that was killed."""
     right = "o" if route == "attr" else "C"
-    count = large.count(ask, names)
+    count = large.count(ask, names, rest)
     if count and _may(ask, names, right):
-        for number in _from_the_last(count):
+        for number in large.resting(_from_the_last(count), rest):
             place = large.part(names, number)
             if _may(ask, place, right):
                 reply = ask(about("PUT", route, place, body=body))
@@ -121,22 +123,22 @@ def _may(ask: Asks, names: Names, right: str) -> bool:
 
 def removed(room: Room, user: str, names: Names) -> Answer:
     with HELD.alone(names), room.talk(user) as talk:
-        return remove(talk.ask, names).answer()
+        return remove(talk.ask, names, talk.rest).answer()
 
 
 def left_removed(room: Room, user: str, names: Names) -> Answer:
     with HELD.alone(names), room.talk(user) as talk:
-        return remove_left(talk.ask, names).answer()
+        return remove_left(talk.ask, names, talk.rest).answer()
 
 
 def moved(room: Room, user: str, names: Names, to: Names) -> Answer:
     with HELD.alone(names, to), room.talk(user) as talk:
-        return move(talk.ask, names, to).answer()
+        return move(talk.ask, names, to, talk.rest).answer()
 
 
 def given(room: Room, user: str, names: Names, body: bytes) -> Answer:
     with HELD.alone(names), room.talk(user) as talk:
-        return set_at_all(talk.ask, "attr", names, body).answer()
+        return set_at_all(talk.ask, "attr", names, body, talk.rest).answer()
 
 
 def listed(room: Room, would: Would, user: str, route: str, names: Names, body: bytes,

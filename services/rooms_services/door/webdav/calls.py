@@ -61,6 +61,10 @@ class Call:
         """How many bytes the room has answered while nobody came between."""
         return self._talk.taken if self._talk else 0
 
+    def rest(self) -> None:
+        if self._talk:
+            self._talk.rest()
+
     def ask(self, ask: Ask) -> Reply:
         return self.room.denials.note(
             self.user, self._talk.ask(ask) if self._talk else self.room.ask(self.user, ask))

@@ -25,7 +25,7 @@ def delete(drive: Drive, call: Call) -> Answer:
     with call.alone():
         drive.heed(call)
         drive.guard(call, call.names, member=True, tree=True)
-        reply = together.remove(call.ask, call.names)
+        reply = together.remove(call.ask, call.names, call.rest)
         if reply.status == 404 and (pending := drive.pending(call.user, call.names)):
             drive.locks.end(pending)
             return Answer(204)
@@ -70,7 +70,7 @@ def move(drive: Drive, call: Call) -> Answer:
         drive.guard(call, to, member=True, tree=True)
         drive.settle(call, call.names)
         _keep_own_list(drive, call, to)
-        reply = together.move(call.ask, call.names, to)
+        reply = together.move(call.ask, call.names, to, call.rest)
         if reply.why != "exists":
             return _moved(drive, call, to, reply, Answer(201))
         _refuse_replacing(call)
@@ -129,10 +129,10 @@ def _move_over(drive: Drive, call: Call, to: Names, source: Document) -> Answer:
     if source.body is None:
         raise Stop(403, "denied", "it may not be read, so it can't replace anything")
     _may_leave(call)
-    reply = replacing.put_small(call.ask, to, source.body)
+    reply = replacing.put_small(call.ask, to, source.body, call.rest)
     if reply.status not in (201, 204):
         raise stop_of(reply)
-    reply = together.remove(call.ask, call.names)
+    reply = together.remove(call.ask, call.names, call.rest)
     return _answer(call, _removed(drive, call, call.names, reply), Answer(204))
 
 
@@ -151,7 +151,7 @@ def _move_parts_over(drive: Drive, call: Call, to: Names, manifest: Manifest) ->
         _may_leave(call)
         _copy_parts(drive, call, to, manifest)
         with call.alone():
-            reply = together.remove(call.ask, call.names)
+            reply = together.remove(call.ask, call.names, call.rest)
         return _answer(call, _removed(drive, call, call.names, reply), Answer(204))
 
 
@@ -195,7 +195,7 @@ def copy(drive: Drive, call: Call) -> Answer:
         well = Answer(201 if target is None else 204)
         manifest = manifest_in(source) if not isinstance(target, Folder) else None
         if isinstance(source, Document) and not isinstance(target, Folder) and not manifest:
-            _copied(replacing.put_small(call.ask, to, source.body or b""))
+            _copied(replacing.put_small(call.ask, to, source.body or b"", call.rest))
             return well
         if not manifest:
             _refuse_parts(call, *[call.names] if isinstance(source, Document) else [], to)

@@ -58,7 +58,7 @@ def _guard_put(drive: Drive, call: Call) -> None:
 
 
 def _put(call: Call) -> Answer:
-    reply = replacing.put_small(call.ask, call.names, call.body)
+    reply = replacing.put_small(call.ask, call.names, call.body, call.rest)
     if reply.status not in (201, 204):
         raise stop_of(reply, {404: 409, 409: 405 if reply.why == "wrong-kind" else 409})
     return Answer(reply.status, fields={"ETag": tag_of(call.body)})
