@@ -7,14 +7,16 @@
 import { resolve } from 'node:path';
 import { pathToFileURL } from 'node:url';
 import { Model, doorBelow } from './model.mjs';
+import { rowsOf } from './standing.mjs';
 
 const [page, trees, from] = process.argv.slice(2);
 const module = (name) => import(`${pathToFileURL(resolve(page)).href}/${name}`);
 const [lists, levels, consequences, words, { seenBelow }] = await Promise.all(
   ['entries.js', 'levels.js', 'consequences.js', 'access_words.js', 'seen_below.js'].map(module));
 
-// Alice may change each list.
-globalThis.fetch = async () => new Response('{"C":"allowed 1"}');
+// Alice may change each list, and the program is stood in for.
+globalThis.fetch = async (target, { body } = {}) => (target === 'door/would'
+  ? Response.json({ rows: rowsOf(body), lists: [] }) : new Response('{"C":"allowed 1"}'));
 
 let seed = Number(from ?? 5);
 const random = (most) => {
@@ -175,7 +177,8 @@ const plain = (text) => text.replace(/[\u2068\u2069]/g, '');
 
 // What the panel says: [{isGain, isKept, names, at, level, removes, clears, text}].
 function claimsOf(state, outcome, { subject, isShare }) {
-  const found = words.saidLines(state, outcome, subject).flatMap((line) => {
+  const found = [...words.saidLines(state, outcome, subject),
+    ...words.perhapsLines(state, outcome)].flatMap((line) => {
     const text = plain(line.words);
     const match = /^(?:.*?) – (.*?)(?:, at (\/\S*?))?(?:, by lines there)?$/.exec(text);
     if (!match || line.names.length === 0) return [];
@@ -305,7 +308,8 @@ async function tryOne(mode) {
   const state = stateOf(before, pick(editable), KNOWN[mode]);
   const click = clickAtRandom(state, before);
   if (click === null) return;
-  const outcome = await consequences.outcomeOf(state, click.next, click.subject);
+  const near = await consequences.nearOf(state, click.next, click.subject);
+  const outcome = await consequences.outcomeOf(state, click.next, click.subject, near);
   const after = before.copy();
   const open = outcome.opening.filter(({ next }) => next !== null);
   for (const { path, next } of open) after.set(path, next);
@@ -325,7 +329,7 @@ async function tryOne(mode) {
   count.kept += outcome.kept.length;
   for (const { text, at } of claims.filter((one) => VAGUE.test(one.text))) say(`${text}, at ${at}`);
   thereAndBack(state, click, say);
-  const hints = { isOwnNew: outcome.isOwnNew, owners: outcome.owners.map(({ name }) => name) };
+  const hints = { isOwnNew: outcome.isOwnNew, owners: outcome.owners.map(({ user }) => user) };
   const openedAt = open.map(({ path }) => path);
   for (const caller of CALLERS[mode]) {
     for (const one of after.objects.values()) {

@@ -2,8 +2,8 @@
 // what that is as a level. Nothing here draws or asks.
 //
 //   const said = new Said(asked, looked, told, { mark, kindAt, cameFrom });
-//   said.at(path, caller, AFTER)          {mask, removes}, or null where it isn't known
-//   said.extentAt(path, kind, caller, BEFORE)   {level, mask, removes, it, inside, own}
+//   said.at(path, caller, AFTER)          {mask, removes, raw}, or null where it isn't known
+//   said.extentAt(path, kind, caller, BEFORE)   {level, it, inside, own, all}, or null
 //   said.changed(caller)                  the paths with a row that says that something changes
 //
 // 'looked' are the rows of the question that looks at '/' and changes nothing, and 'told' those of
@@ -25,7 +25,7 @@ const toldOf = (kind, mask) => [...(kind === 'folder' ? OF_FOLDER : OF_DOCUMENT)
   .filter((letter) => mask.includes(letter)).join('');
 
 const above = (path) => (path === '/' ? null : path.slice(0, path.lastIndexOf('/')) || '/');
-const NOTHING = { mask: '', removes: false };
+const NOTHING = { mask: '', removes: false, raw: '' };
 
 // The rows of an answer by path and caller.
 class Rows {
@@ -64,8 +64,8 @@ export class Said {
   get callers() { return this.asked.all; }
 
   at(path, { key }, side = AFTER) {
-    const said = (mask, removes) => (
-      { mask: toldOf(this.kindAt(path), mask), removes: removes === 'yes' });
+    const said = (raw, removes) => (
+      { mask: toldOf(this.kindAt(path), raw), removes: removes === 'yes', raw });
     const row = this.told?.nearest(path, key);
     if (row === null) return null;
     if (row !== undefined && isChange(row)) return said(...row.slice(2 * side, 2 * side + 2));
@@ -94,18 +94,20 @@ export class Said {
       callers.has(NOT_KNOWN)).map(([path]) => path);
   }
 
-  // What somebody may do there and with what is in it: {level, mask, it, inside, own}. The level is
+  // What somebody may do there and with what is in it: {level, it, inside, own, all}. The level is
   // about the documents that others make there too; 'it' says whether they may remove the object,
-  // 'inside' what others make in it, and 'own' what they make there themselves.
+  // 'inside' what others make in it, and 'own' what they make there themselves. 'all' has the rows
+  // of these: here, what others make there, and last what they make there themselves.
   extentAt(path, kind, caller, side = AFTER) {
     const here = this.at(path, caller, side);
     if (here === null) return null;
     const its = kind === 'document' ? null : this.insideAt(path, caller, side);
     const makes = /[wa]/.test(here.mask) && caller.user !== null;
-    return { level: levelOf(here, its && its.other), mask: here.mask, it: here.removes,
-      inside: its !== null && (its.other.removes || its.folder.removes),
+    const others = its === null ? [] : [its.other, its.folder, its.deep];
+    return { level: levelOf(here, its && its.other), it: here.removes,
+      inside: others.some(({ removes }) => removes),
       own: its !== null && makes && its.own.removes,
-      all: its === null ? [here] : [here, its.other, its.folder, ...makes ? [its.own] : []] };
+      all: [here, ...others, ...its !== null && makes ? [its.own] : []] };
   }
 
   // The same of what is imagined in a folder.

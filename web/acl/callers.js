@@ -9,7 +9,7 @@
 // particular, and 'owns' is OWNER@ or GROUP@ for whoever that is where it can't be read. Where
 // members are known ('isExact') each user is a caller, with the groups that count; else one for
 // each user, and for up to 'most' groups together, alone and with each user. Of these 'isPerhaps'
-// says that nobody may be so: several groups, or a user in one.
+// says that nobody may be so: several groups, or a user in one. 'id' is of one caller alone.
 
 import { isGroup } from './entries.js';
 
@@ -92,6 +92,13 @@ const others = { key: ANY_OTHER, user: null, groups: [], isPerhaps: false };
 
 // 'most' is how many groups are asked for together: less where a question is too large.
 export function partiesFor(names, known, me = '', most = 3) {
+  const { all, ...asked } = callersOf(names, known, me, most);
+  const { isExact } = asked;
+  return { ...asked,
+    all: all.map((one) => ({ ...one, isExact, id: `${one.key} ${one.user}` })) };
+}
+
+function callersOf(names, known, me, most) {
   const users = new Set([...names.users, ...me === '' ? [] : [me]]);
   const free = freeName('+', [...users, ...known?.users ?? []]);
   const unread = names.unread.map((owns) => (
@@ -128,6 +135,13 @@ export function partiesFor(names, known, me = '', most = 3) {
 const isPartOf = (one, whole) => one !== whole && !one.owns
   && (one.user === null || one.user === whole.user)
   && one.groups.every((group) => whole.groups.includes(group));
+
+// What is said of everybody else isn't said of each of them.
+export function shared(found) {
+  const all = found.find(({ caller }) => caller.key === ANY_OTHER && caller.user === null);
+  return all === undefined ? found
+    : found.filter((one) => one === all || [...one.says].some((word) => !all.says.has(word)));
+}
 
 // Those of whom is to be told, of [{caller, says}] with what is said of each as a set of words:
 // without those who may be and of whom nothing is said but what is said of their parts.

@@ -48,6 +48,15 @@ export const isException = ({ list, kind }) => list !== null && (list.protect
 // An object that somebody else made in a folder whose group is this one.
 export const ofOthers = (group) => ({ owner: '', group });
 
-// What others made in a folder, and what follows its list. Both are {entries, object}.
-export const childOf = ({ entries, object }, kind) =>
-  ({ entries: passedDown(entries, kind), object: ofOthers(object.group) });
+// The lists below a folder as they are once its own is this one, as far as they can be read: path to
+// list. 'nodes' come from the top down.
+export function listsThen(nodes, path, list) {
+  const found = new Map([[path, list]]);
+  for (const node of nodes) {
+    const above = found.get(node.path.slice(0, node.path.lastIndexOf('/')) || '/');
+    if (above !== undefined && node.list !== null) {
+      found.set(node.path, { ...node.list, entries: afterMoving(node.list, above, node.kind) });
+    }
+  }
+  return found;
+}

@@ -10,6 +10,7 @@
 // path}. 'asked' is what partiesFor says. UNNAMED stands before the name of what has no name here.
 
 import { freeName } from './callers.js';
+import { printList } from './entries.js';
 
 export const FOLLOWS = 'follows';
 const UNREAD = 'unread';
@@ -20,18 +21,31 @@ export const UNNAMED = '\u0000';
 
 const at = (folder, name) => `${folder === '/' ? '' : folder}/${UNNAMED}${name}`;
 // What is imagined in a folder, by how it is asked for: a document and a folder of somebody else,
-// and a document that each caller made there.
-export const imagined = (path) => (
-  { other: at(path, 'd'), folder: at(path, 'f'), own: at(path, 'o') });
+// another document in that folder, and one that each caller made here.
+export const imagined = (path) => ({ other: at(path, 'd'), folder: at(path, 'f'),
+  deep: at(at(path, 'f'), 'd'), own: at(path, 'o') });
 
 // The same as objects of a question.
 export function imaginedIn({ path, object: { group } }) {
   const paths = imagined(path);
   const one = (name, kind, owner) => (
     { path: paths[name], kind, text: FOLLOWS, object: { owner, group } });
-  return [one('other', 'document', ''), one('folder', 'folder', ''),
+  return [one('other', 'document', ''), one('folder', 'folder', ''), one('deep', 'document', ''),
     one('own', 'document', OF_EACH)];
 }
+
+// In the place of a list on the way that may not be read: it hinders nobody here, and passes
+// nothing on. That it isn't known has to be told.
+export const OPEN = 'list:\nA::EVERYONE@:x\n';
+
+// Lists by themselves, as those of objects that everybody gets to: [{name, kind, list, object}] as
+// objects of a question, of which 'alone' says the paths.
+export const alone = (name) => at('/', name);
+export const keptAlone = ({ entries }) => printList({ auto: true, protect: true, entries });
+export const objectsAlone = (those) => [
+  { path: '/', kind: 'folder', text: OPEN, object: { owner: '', group: '' } },
+  ...those.map(({ name, kind, list, object }) => (
+    { path: alone(name), kind, text: keptAlone(list), object }))];
 
 // The text of a list as lines of a question, or the word in its place.
 const bodyOf = (text) => (text ?? UNREAD).replace(/^#(?!:)/gm, '#:').replace(/\n$/, '');

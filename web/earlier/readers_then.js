@@ -93,7 +93,7 @@ function namedAt(said, paths, known, holds) {
     { caller, says: new Set(paths.filter((path) => holds(caller, path))) }))
     .filter(({ says }) => says.size > 0);
   return toTell(found).map(({ caller, says }) => ({ count: says.size,
-    isPerhaps: caller.isPerhaps, name: partyName(caller, said.asked, known) }));
+    isPerhaps: caller.isPerhaps, name: partyName(caller, known) }));
 }
 
 const readsAt = (said, side) => (caller, path) => {

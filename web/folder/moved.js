@@ -8,7 +8,7 @@ import { people } from '../net/directory.js';
 import { readPieces, wayObjects, withImagined } from '../net/pieces.js';
 import { foresee } from '../net/would.js';
 import { AFTER, BEFORE } from '../acl/answer.js';
-import { ANY_OTHER, toTell } from '../acl/callers.js';
+import { shared, toTell } from '../acl/callers.js';
 import { UNNAMED } from '../acl/question.js';
 import { stoppable } from '../ui/panel.js';
 import { partyName } from '../text/parties.js';
@@ -26,7 +26,7 @@ const IN_ORDER = 'rwdC';
 function lettersAt(said, { path, kind }, caller, [had, has]) {
   const [before, then] = [had, has].map((side) => said.extentAt(path, kind, caller, side));
   if (before === null || then === null) return null;
-  const isNew = (holds) => then.all.slice(0, 3).some((one, at) =>
+  const isNew = (holds) => then.all.slice(0, 4).some((one, at) =>
     holds(one) && !holds(before.all[at]));
   return [...Object.keys(LETTERS).filter((letter) => isNew(({ mask }) =>
     LETTERS[letter].test(mask))), ...isNew(({ removes }) => removes) ? ['d'] : []];
@@ -48,34 +48,26 @@ function changesOf(said, places, sides, me) {
   return places.map((place) => {
     const found = said.callers.filter(({ user }) => user !== me).flatMap((caller) => {
       const letters = lettersAt(said, place, caller, sides) ?? [];
-      const key = `${caller.key} ${caller.user}`;
-      const above = [...told.get(key) ?? []].filter(({ path }) =>
+      const above = [...told.get(caller.id) ?? []].filter(({ path }) =>
         place.path.startsWith(`${path}/`)).flatMap(({ says }) => says);
       const says = letters.filter((one) => !above.includes(one));
-      told.set(key, [...told.get(key) ?? [], { path: place.path, says }]);
+      told.set(caller.id, [...told.get(caller.id) ?? [], { path: place.path, says }]);
       return says.length === 0 ? [] : [{ caller, says: new Set(says) }];
     });
     return { place, found: toTell(found) };
   });
 }
 
-// What everybody else gains isn't told of each of them.
-function shared(found) {
-  const all = found.find(({ caller }) => caller.key === ANY_OTHER && caller.user === null);
-  return all === undefined ? found
-    : found.filter((one) => one === all || [...one.says].some((letter) => !all.says.has(letter)));
-}
-
 // What is told of places: [{who, letters, places, isPerhaps}]. Those who gain the same share a
 // sentence, and so do places of which the same is told.
-function toldOf(changes, { asked }, known) {
+function toldOf(changes, known) {
   const groups = new Map();
   for (const { place, found } of changes) {
     const alike = new Map();
     for (const { caller, says } of shared(found)) {
       const letters = [...IN_ORDER].filter((one) => says.has(one)).join('');
       const key = JSON.stringify([letters, caller.isPerhaps]);
-      alike.set(key, [...alike.get(key) ?? [], partyName(caller, asked, known)]);
+      alike.set(key, [...alike.get(key) ?? [], partyName(caller, known)]);
     }
     for (const [key, who] of alike) {
       const whole = JSON.stringify([key, who]);
@@ -121,7 +113,7 @@ function changeWords({ said, moves }, [from, to], [known, me]) {
   const places = moves.map((one) => placesIn(said, one)
     .map((place) => ({ ...place, top: one.object.path })));
   const told = (sides, without) => toldOf(without(places.flatMap((those) =>
-    changesOf(said, those, sides, me))), said, known);
+    changesOf(said, those, sides, me))), known);
   const isRead = (folders) => folders.at(-1).text !== null;
   const gained = told([BEFORE, AFTER], isRead(from) ? (all) => all : withoutRemoving);
   const lost = isRead(to) ? told([AFTER, BEFORE], (all) => all) : [];
@@ -181,5 +173,5 @@ export async function readersWords(path) {
   const isSure = folders.every(({ text }) => text !== null);
   if (readers.length === 0) return isSure ? texts.moving.noReaders : texts.moving.noReadersPerhaps;
   return (isSure ? texts.moving.readers : texts.moving.readersPerhaps)(
-    shortened(shared(readers).map(({ caller }) => partyName(caller, said.asked, known)), 12));
+    shortened(shared(readers).map(({ caller }) => partyName(caller, known)), 12));
 }

@@ -47,7 +47,6 @@ const WHO = {
     user: (name) => `den Benutzer ${name}`,
   },
   // These have one form for the first and the fourth case.
-  everyone: EVERYONE,
   signingIn: SIGNED_IN,
   others: OTHERS,
   unknownOwner: 'die besitzende Person',

@@ -218,6 +218,7 @@ export const DE_OUTCOME = {
   },
   line: (names, words) => `${and(names)} – ${words}`,
   at: (words, path) => `${words}, bei ${path}`,
+  atInside: (words, path) => `${words}, bei Dokumenten in ${path}`,
   keepsAt: (words, path) => `${words}, bei ${path}, durch Zeilen dort`,
   moreRights: 'einige weitere Berechtigungen',
   otherRights: 'nicht dieselben Berechtigungen wie jetzt',
@@ -245,6 +246,8 @@ export const DE_OUTCOME = {
   gettingOwn: (name, objects) => (objects === 1
     ? `${capital(name)} erreicht dann 1 eigenes Objekt und darf es entfernen.`
     : `${capital(name)} erreicht dann ${number(objects)} eigene Objekte und darf sie entfernen.`),
+  losingOwn: (name, objects) => `${name} kann dann ${
+    count(objects, 'eigenes Objekt', 'eigene Objekte')} nicht mehr entfernen.`,
   groupsAsOf: (day) => `Wer in einer Gruppe ist, ist hier bekannt (Stand: ${day}).`,
   groupsUnknown: 'Wer in einer Gruppe ist, ist hier nicht bekannt: Mitglieder haben dadurch '
     + 'vielleicht mehr.',

@@ -177,8 +177,6 @@ export const DE_WARNINGS = {
   // The third case.
   depends: {
     group: (name) => `der Gruppe ${name}`,
-    owner: 'dem Eigentümer',
-    owningGroup: 'der Eigentümergruppe',
     above: 'der Liste des übergeordneten Ordners (die Sie nicht lesen dürfen)',
   },
   losesList: {

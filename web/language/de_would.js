@@ -7,6 +7,7 @@ const TWO_AT_MOST = 'Hier ist so viel, dass höchstens zwei Gruppen zusammen ang
   + 'Wer in mehr ist, gewinnt oder verliert vielleicht mehr.';
 
 export const DE_WOULD = {
+  title: 'Was daraus würde, lässt sich nicht sagen',
   noAnswer: 'Was daraus würde, lässt sich jetzt nicht sagen: Es kommt keine Antwort. Geändert '
     + 'wurde nichts. Versuchen Sie es in einer Minute noch einmal.',
   tooMuch: 'Darunter liegt zu viel, um zu sagen, was daraus würde. Ändern Sie weiter unten, für '

@@ -46,7 +46,6 @@ const WHO = {
     group: (name) => `the group ${name}`,
     user: (name) => `the user ${name}`,
   },
-  everyone: 'everyone',
   signingIn: 'everyone who signs in',
   others: 'everyone else who signs in',
   unknownOwner: 'whoever owns it',

@@ -197,6 +197,7 @@ export const EN_OUTCOME = {
   },
   line: (names, words) => `${and(names)} – ${words}`,
   at: (words, path) => `${words}, at ${path}`,
+  atInside: (words, path) => `${words}, with documents in ${path}`,
   keepsAt: (words, path) => `${words}, at ${path}, by lines there`,
   moreRights: 'some more rights',
   otherRights: 'not the same rights as now',
@@ -221,6 +222,8 @@ export const EN_OUTCOME = {
   notOwned: 'You may not see who owns it, so it isn’t known who that is, and what else they have.',
   gettingOwn: (name, objects) => `${name} then gets at ${count(objects, 'object', 'objects')} of `
     + `their own, and may remove ${objects === 1 ? 'it' : 'them'}.`,
+  losingOwn: (name, objects) => `${name} can then no longer remove ${
+    count(objects, 'object', 'objects')} of their own.`,
   groupsAsOf: (day) => `Who is in a group is known as of ${day}.`,
   groupsUnknown: 'Who is in a group isn’t known here: members may have more by that.',
   ownNew: 'Whoever made a document here may then also remove and rename it.',

@@ -169,8 +169,6 @@ const folderAt = (place) => place ?? 'this folder';
 export const EN_WARNINGS = {
   depends: {
     group: (name) => `the group ${name}`,
-    owner: 'the owner',
-    owningGroup: 'the owning group',
     above: 'the list of the folder above, which you may not read',
   },
   // The letter is C for changing the list, and c for seeing it.

@@ -7,6 +7,7 @@ const TWO_AT_MOST = 'There is so much here that at most two groups together were
   + 'whoever is in more may gain or lose more.';
 
 export const EN_WOULD = {
+  title: 'It can’t be said what would come of this',
   noAnswer: 'It can’t be said now what would come of this: there is no answer. Nothing was '
     + 'changed. Try again in a minute.',
   tooMuch: 'There is too much below to say what would come of this. Do it further down, for less '

@@ -42,7 +42,6 @@ const WHO = {
     group: (name) => `le groupe ${name}`,
     user: (name) => `l’utilisateur ${name}`,
   },
-  everyone: 'tout le monde',
   signingIn: 'toute personne connectée',
   others: 'toute autre personne connectée',
   unknownOwner: 'la personne propriétaire',

@@ -214,6 +214,7 @@ export const FR_OUTCOME = {
   },
   line: (names, words) => `${and(names)} – ${words}`,
   at: (words, path) => `${words}, à ${path}`,
+  atInside: (words, path) => `${words}, pour des documents dans ${path}`,
   keepsAt: (words, path) => `${words}, à ${path}, par des lignes qui s’y trouvent`,
   moreRights: 'quelques droits de plus',
   otherRights: 'pas les mêmes droits que maintenant',
@@ -243,6 +244,8 @@ export const FR_OUTCOME = {
     ? `${capital(name)} accède alors à 1 objet qui lui appartient, et peut le supprimer.`
     : `${capital(name)} accède alors à ${number(objects)} objets qui lui appartiennent, et peut `
       + 'les supprimer.'),
+  losingOwn: (name, objects) => `${name} ne pourra alors plus supprimer ${
+    count(objects, 'objet', 'objets')} qui lui appartiennent.`,
   groupsAsOf: (day) => `La composition des groupes est connue ici (état : ${day}).`,
   groupsUnknown: 'On ne sait pas ici qui est dans un groupe : des membres ont peut-être plus par '
     + 'là.',

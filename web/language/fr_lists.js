@@ -174,8 +174,6 @@ export const FR_WARNINGS = {
   // As they stand after 'de'.
   depends: {
     group: (name) => `du groupe ${name}`,
-    owner: 'du propriétaire',
-    owningGroup: 'du groupe propriétaire',
     above: 'de la liste du dossier au-dessus (que vous ne pouvez pas lire)',
   },
   losesList: {

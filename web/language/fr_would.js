@@ -7,6 +7,7 @@ const TWO_AT_MOST = 'Il y a tant de choses ici que deux groupes ensemble au plus
   + 'examinés : qui est dans plus gagne ou perd peut-être plus.';
 
 export const FR_WOULD = {
+  title: 'On ne peut pas dire ce qui en résulterait',
   noAnswer: 'On ne peut pas dire maintenant ce qui en résulterait : il n’y a pas de réponse. '
     + 'Rien n’a été changé. Réessayez dans une minute.',
   tooMuch: 'Il y a trop de choses dessous pour dire ce qui en résulterait. Faites-le plus bas, '

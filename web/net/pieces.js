@@ -2,11 +2,8 @@
 
 import { objectAt } from './ancestors.js';
 import { lookBelow } from './crawl.js';
-import { FOLLOWS, UNNAMED, imaginedIn } from '../acl/question.js';
+import { FOLLOWS, OPEN, UNNAMED, imaginedIn } from '../acl/question.js';
 
-// In the place of a list on the way that may not be read: it hinders nobody here, and passes
-// nothing on. That it isn't known has to be told.
-const OPEN = 'list:\nA::EVERYONE@:x\n';
 const SO_MANY = 20;
 
 // Folders on the way, as foldersAbove says them, each once and from the top down.
@@ -17,7 +14,7 @@ export const wayObjects = (...ways) => [...new Map(ways.flat().map((one) => [one
 const isOwnFolder = ({ kind, text, path }) => kind === 'folder' && text !== FOLLOWS
   && text !== null && !path.includes(UNNAMED);
 
-// With what is imagined in folders that have lists of their own, and in these.
+// With what is imagined in folders that have lists of their own, and in these folders.
 export const withImagined = (objects, folders = []) => [...objects, ...objects.filter((one) =>
   isOwnFolder(one) || folders.includes(one.path)).flatMap(imaginedIn)];
 

@@ -33,8 +33,20 @@ async function askOnce(body) {
   return reply.json().catch(lost);
 }
 
+// The answer follows from the question alone, so the last ones are kept.
+const MOST_KEPT = 12;
+const kept = new Map();
+
 // {rows, lists} of a question. It may be asked twice.
-export const would = (question) => untilAnswered(() => askOnce(question));
+export function would(question) {
+  if (!kept.has(question)) {
+    const asked = untilAnswered(() => askOnce(question));
+    asked.catch(() => kept.delete(question));
+    kept.set(question, asked);
+    if (kept.size > MOST_KEPT) kept.delete(kept.keys().next().value);
+  }
+  return kept.get(question);
+}
 
 const sizeOf = (text) => new TextEncoder().encode(text).length;
 // Owners are asked for too, another name, and whoever has none.

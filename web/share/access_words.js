@@ -2,13 +2,16 @@
 
 import { texts } from '../language/language.js';
 import { nameOf } from '../net/api.js';
-import { dayWords, fullName, isOld } from '../net/directory.js';
+import { UNNAMED } from '../acl/question.js';
+import { dayWords, isOld } from '../net/directory.js';
 import { insideWords } from '../text/removers.js';
-import { WHO_HAS_ACCESS, lossWords } from '../text/warnings.js';
+import { WHO_HAS_ACCESS, lossWords } from '../text/loss.js';
 import { isolated } from '../text/words.js';
+import { partyName } from '../text/parties.js';
 import { shortened } from '../text/who_is.js';
 import { subjectsOf } from './subjects.js';
 import { unreadNames } from '../text/unread.js';
+import { lessWords } from '../text/would_words.js';
 
 export const MOST_NAMED = 6;
 const MOST_PLACES = 6;
@@ -31,20 +34,26 @@ function sameLevelWords({ from, more, gained, lost, isRemoval }) {
 }
 
 // Of a person whose groups aren't known, no more can be said than what this list gives.
-const isAllKnown = ({ user }, known) => user === null || known?.members === true;
+const isAllKnown = ({ user, isExact, isPerhaps }) => user === null || isExact || isPerhaps;
 
-function changeWords(change, kind, known) {
+function changeWords(change, kind) {
   const { from, to, more } = change;
   if (from === to) return sameLevelWords(change);
   const removals = beyondLevel(change);
   if (more) return texts.outcome.gains(to, kind, removals);
   if (to !== 'none') return texts.outcome.loses(from, to, kind, removals);
-  const say = isAllKnown(change, known) ? texts.outcome.losesAll : texts.outcome.losesByList;
+  const say = isAllKnown(change) ? texts.outcome.losesAll : texts.outcome.losesByList;
   return say(from, kind);
 }
 
-export const shownName = (known) => ({ user, name }) =>
-  (user === null ? name : isolated(fullName(known, user)));
+export const shownName = (known) => (caller) => partyName(caller, known);
+
+// What is imagined in a folder is whatever is there.
+function atWords(words, path) {
+  const [folder, ...rest] = path.split(`/${UNNAMED}`);
+  const say = rest.length === 0 ? texts.outcome.at : texts.outcome.atInside;
+  return say(words, isolated(folder === '' ? '/' : folder));
+}
 
 // Those who have the same words share a line: [{look, head, words, names}]. 'told' are {look, head,
 // words, caller}.
@@ -68,9 +77,9 @@ function headOf({ more, owns }) {
 
 // The path is null for the object itself.
 const changeLines = (changes, kind, known, path = null) => joinedLines(changes.map((caller) => {
-  const words = changeWords(caller, kind, known);
+  const words = changeWords(caller, kind);
   return { look: caller.more ? 'gain' : 'loss', head: headOf(caller), caller,
-    words: path === null ? words : texts.outcome.at(words, isolated(path)) };
+    words: path === null ? words : atWords(words, path) };
 }), known);
 
 // What those who lose something keep further down, by lines that stand there.
@@ -89,7 +98,7 @@ const plain = (look, head, words, rest = []) => ({ look, head, words, names: [],
 
 // Who gains and who loses: [{look, head, words, names}].
 export function saidLines({ known, kind }, outcome, subject) {
-  const { changes, gains, losses, below, isAll, kept } = outcome;
+  const { changes, gains, losses, below, isAll, kept, owners, losers, perhaps } = outcome;
   // What the sentence above says already isn't said twice.
   const isNamed = ({ user }) => subjectsOf(subject)
     .some((one) => !one.isGroup && one.who === user);
@@ -99,8 +108,10 @@ export function saidLines({ known, kind }, outcome, subject) {
     changeLines(one.changes, one.kind, known, one.path));
   const stays = (those) => those.flatMap((one) => keptLines(one, known));
   const [more, moreKept] = [below, kept].map((those) => those.length - MOST_PLACES);
-  const isNone = changes.length === 0 && below.length === 0;
-  const isHarmless = losses.length === 0
+  const isNone = changes.length + below.length + owners.length + losers.length
+    + perhaps.changes.length + perhaps.below.length === 0;
+  const isHarmless = losses.length === 0 && losers.length === 0 && perhaps.below.length === 0
+    && perhaps.changes.every(({ more }) => more)
     && below.every((one) => one.changes.every((each) => each.more));
   return [
     ...isSaid ? [] : changeLines(gains, kind, known), ...changeLines(losses, kind, known),
@@ -116,9 +127,16 @@ export function saidLines({ known, kind }, outcome, subject) {
   ].filter(Boolean);
 }
 
+// What isn't sure, since it isn't known who is in which groups.
+export function perhapsLines({ known, kind }, { perhaps }) {
+  return [...changeLines(perhaps.changes, kind, known),
+    ...perhaps.below.flatMap((one) => changeLines(one.changes, one.kind, known, one.path))];
+}
+
 // What isn't known, and what stays as it is.
 export function hintsOf({ known }, outcome) {
-  const { hasGroups, isKnown, isOwnNew, apart, unread, changes, below, owners } = outcome;
+  const { hasGroups, isKnown, isOwnNew, apart, unread, changes, below, owners, losers,
+    asked } = outcome;
   const names = (paths) =>
     shortened(paths.map((path) => texts.places.quoted(isolated(path))), FEW);
   const isExact = known?.members === true;
@@ -128,6 +146,8 @@ export function hintsOf({ known }, outcome) {
     hasGroups && !isExact && texts.outcome.groupsUnknown,
     isOwnNew && texts.outcome.ownNew,
     ...owners.map((one) => texts.outcome.gettingOwn(shownName(known)(one), one.count)),
+    ...losers.map((one) => texts.outcome.losingOwn(shownName(known)(one), one.count)),
+    lessWords(asked),
     isUnowned && texts.outcome.notOwned,
     !isKnown && texts.outcome.aboveUnknown,
     changes.length > 0 && apart.length > 0

@@ -18,6 +18,7 @@ import { levelWords, placeName } from './access_words.js';
 import { below, mark } from '../ui/names.js';
 import { inSentence, membersOf, whoName } from '../text/who_is.js';
 import { isolated } from '../text/words.js';
+import { isUnsaid } from '../text/would_words.js';
 
 const MOST_MEMBERS = 8;
 
@@ -161,20 +162,26 @@ class Picked {
     }
     const isWanted = () => look === this.looks && this.body.isConnected;
     this.told.subject = this.subject;
-    await followOutcome(state, next, this.subject, isWanted, (outcome, isBusy) =>
-      this.show(next, outcome, isBusy)).catch(tellFault);
+    await followOutcome(state, next, this.subject, isWanted, (outcome, isBusy) => {
+      this.show(next, outcome.lock === null);
+      this.told.draw(outcome, isBusy);
+    }).catch((fault) => {
+      if (!isUnsaid(fault)) tellFault(fault);
+      else if (isWanted()) {
+        this.show(next, false);
+        this.told.fail(fault, () => this.draw());
+      }
+    });
   }
 
-  show(next, outcome, isBusy) {
+  show(next, isPlain) {
     const { state, choices, level } = this;
     this.sent = next;
     this.said.textContent = addedWords(state, choices, level, texts.access.thenCan,
       this.until.value);
     this.hint.textContent = levelHint(state.kind, level, next);
-    this.share.textContent = outcome.lock === null ? texts.access.share
-      : texts.access.shareAllTheSame;
-    this.share.className = outcome.lock === null ? 'primary' : 'danger';
-    this.told.draw(outcome, isBusy);
+    this.share.textContent = isPlain ? texts.access.share : texts.access.shareAllTheSame;
+    this.share.className = isPlain ? 'primary' : 'danger';
   }
 
   async send(again) {

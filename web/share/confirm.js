@@ -12,6 +12,7 @@ import { placeName } from './access_words.js';
 import { tellOutcome } from './outcome_view.js';
 import { sendAll } from './passage.js';
 import { sentenceOf } from '../text/words.js';
+import { isUnsaid, noAnswerWords } from '../text/would_words.js';
 
 const stays = (paths) => texts.access.wayStays(paths.map(placeName));
 
@@ -87,7 +88,27 @@ export class Told {
     this.line.draw(isBusy);
     this.send.disabled = isBusy;
   }
+
+  // It can't be said what would come of it; then it may be sent all the same, without what would
+  // be offered beside it.
+  fail(fault, again) {
+    this.told = { ways: () => [], left: () => [] };
+    this.text = null;
+    this.box.replaceChildren(element('div', { class: 'outcome' },
+      element('ul', { class: 'warnings', 'aria-label': texts.acts.mindThis },
+        element('li', { class: 'unsure' }, noAnswerWords(fault))),
+      button(texts.acts.tryAgain, again, { class: 'small' })));
+    this.line.draw(false);
+    this.send.disabled = false;
+  }
 }
+
+const answerTo = (title, shown, cancel, send) => showDialog(title, (finish) => {
+  cancel.addEventListener('click', () => finish(null));
+  send.addEventListener('click', () => finish('send'));
+  (send.className === 'danger' || send.disabled ? cancel : send).autofocus = true;
+  return [...shown, element('div', { class: 'actions' }, cancel, send)];
+}, 'sharing');
 
 // A dialog that says what comes of the list that 'nextOf' makes, and sends it. 'words' are {title,
 // words, allTheSame, sentence, subject, more}: the button has these words, or others where the
@@ -105,26 +126,29 @@ export async function confirm(state, nextOf, words) {
     next = nextOf();
     return followOutcome(state, next, subject, () => isOpen && mine === looks, draw);
   };
-  const told = new Told(state, subject, send, () => look(draw).catch(tellFault));
   const draw = (outcome, isBusy) => {
     said.textContent = words.sentence(outcome);
     tellDanger(send, words, outcome);
     told.draw(outcome, isBusy);
   };
-  await waitFor(new Promise((resolve, reject) => {
-    look((...drawn) => resolve(draw(...drawn))).catch(reject);
-  }));
-  const beside = more(() => {
+  const anew = () => {
     send.disabled = true;
-    look(draw).catch(tellFault);
-  });
-  const answer = await showDialog(title, (finish) => {
-    cancel.addEventListener('click', () => finish(null));
-    send.addEventListener('click', () => finish('send'));
-    (send.className === 'danger' || send.disabled ? cancel : send).autofocus = true;
-    return [said, ...beside === null ? [] : [beside], told.shown,
-      element('div', { class: 'actions' }, cancel, send)];
-  }, 'sharing');
+    look(draw).catch(fail);
+  };
+  const fail = (fault) => {
+    if (!isUnsaid(fault)) tellFault(fault);
+    said.textContent = words.sentence({ changes: [] });
+    tellDanger(send, words, { lock: fault });
+    told.fail(fault, anew);
+  };
+  const told = new Told(state, subject, send, anew);
+  await waitFor(new Promise((resolve, reject) => {
+    look((...drawn) => resolve(draw(...drawn))).catch((fault) =>
+      (isUnsaid(fault) ? resolve(fail(fault)) : reject(fault)));
+  }));
+  const beside = more(anew);
+  const answer = await answerTo(title, [said, ...beside === null ? [] : [beside], told.shown],
+    cancel, send);
   isOpen = false;
   return answer === null ? null : deliver(state, next, told.told);
 }

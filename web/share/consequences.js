@@ -1,45 +1,25 @@
 // What a new list would bring about: who gains and who loses, here and further down, who can't get
-// here, and whether I keep it. access_words.js says it in sentences.
+// here, and whether I keep it. The program is asked, and access_words.js says it in sentences.
 
-import { grantsNobody, isGranted } from '../acl/decide.js';
-import { isGroup } from '../acl/entries.js';
-import { afterSending, isException } from '../acl/inherit.js';
+import { isGroup, printList } from '../acl/entries.js';
+import { afterSending, isException, listsThen } from '../acl/inherit.js';
 import { isOwn } from '../acl/levels.js';
+import { imagined } from '../acl/question.js';
 import { together } from '../net/crawl.js';
+import { foresee } from '../net/would.js';
 import { keptFrom } from './kept_below.js';
+import { lossOf } from '../text/loss.js';
 import { removalOf } from '../text/removers.js';
-import { lossOf } from '../text/warnings.js';
-import { furtherLines, leftovers, openings, waysAfter } from './passage.js';
+import { furtherLines, leftovers, objectsRound, wayOf } from './passage.js';
 import { isMeant } from './subjects.js';
-import {
-  callersFor, changesBelow, changesOf, extentOf, keptBelow, meantIn, removingOwn,
-  statesBelow,
-} from './who_can.js';
+import { changesAt, changesBelow, keptBelow, ofOwners } from './who_can.js';
 
 const NOTHING = { nodes: [], unread: [], all: true };
-
-const isBelow = (path, folder) => path === folder || path.startsWith(`${folder}/`);
+const isBelow = (path, folder) => path.startsWith(folder === '/' ? '/' : `${folder}/`);
 
 // What was seen below the object by now.
 export const belowOf = ({ kind, path, looking }) =>
   (kind === 'folder' ? looking.below(path) : NOTHING);
-
-// The protected folders among it, other than in one of them.
-function protectedIn({ nodes, all }) {
-  const shut = nodes.filter(({ kind, list }) => kind === 'folder' && list?.protect);
-  return { all, found: shut.filter(({ path }) =>
-    !shut.some((one) => one.path !== path && isBelow(path, one.path))) };
-}
-
-// Whoever any of the lists means: here, on the way, and further down.
-function callersAround({ object, folders, known }, lists, nodes) {
-  const read = nodes.filter(({ list }) => list !== null);
-  const unowned = read.filter((one) => one.object.owner === null);
-  const places = [...lists.map(({ entries }) => ({ entries, object })),
-    ...unowned.map((one) => ({ entries: one.list.entries, object: one.object }))];
-  const others = [...folders, ...read.filter(isException)].map(({ list }) => list);
-  return callersFor(places, others.filter((list) => list !== null), known);
-}
 
 const firstOf = (opening) => opening.find(({ next }) => next !== null);
 
@@ -47,110 +27,37 @@ const firstOf = (opening) => opening.find(({ next }) => next !== null);
 const openedBy = (state, opening) =>
   (firstOf(opening) ? state.looking.below(firstOf(opening).path) : NOTHING);
 
-// What opening the way lets these get at beside the object: {changes, owners}.
-function besideOf(state, opening, { nodes }, callers) {
-  const first = firstOf(opening);
-  if (first === undefined) return { changes: [], owners: [] };
-  const depth = state.folders.findIndex(({ path }) => path === first.path);
-  const above = state.folders.slice(0, depth);
-  const others = new Map(opening.filter(({ next }) => next).map(({ path, next }) => [path, next]));
-  const states = statesBelow(nodes, { path: first.path, object: first.folder.object,
-    lists: [first.folder.list, first.next], ways: [above, above] }, others)
-    .filter(({ path }) => !isBelow(path, state.path));
-  // That somebody passes through what is opened is said already.
-  const unsaid = (one) => (others.has(one.path)
-    ? { ...one, changes: one.changes.filter(({ to }) => to !== 'pass') } : one);
-  const changes = changesBelow(states, callers, []).map(unsaid)
-    .filter((one) => one.changes.length > 0);
-  return { changes, owners: removingOwn(states, callers) };
-}
-
-// Whoever changes at the top or is let pass, and whom lines further down mean.
-function affectedBy(nodes, opening, callers, changes) {
-  const names = new Set([...changes, ...opening.flatMap((one) => one.callers),
-    ...meantIn(nodes, callers)].map(({ name }) => name));
-  return callers.filter(({ name }) => names.has(name));
+// What opening the way lets these get at beside the object. That somebody passes through what is
+// opened is said already; what is in it is a place by itself.
+function besideOf(said, opening, nodes) {
+  const open = opening.filter(({ next }) => next !== null);
+  const folders = open.map(({ path }) => ({ path, kind: 'folder', text: '' }));
+  const inside = open.map(({ path }) => (
+    { path: imagined(path).other, kind: 'document', text: '' }));
+  return each(changesBelow(said, [...folders, ...inside, ...nodes], []), (changes, { path }) =>
+    changes.filter(({ to }) => to !== 'pass' || !open.some((one) => one.path === path)));
 }
 
 // Of these levels it is said that they remove what they added.
 const removesOwn = (level) => ['change', 'remove', 'manage'].includes(level);
 
-// Who gains, who loses and who keeps something below the object: {below, kept, apart, states}.
-// 'tops' has what each caller can do at the object then.
-function changesInside(state, found, { full, opening, callers, changes, tops }) {
-  if (state.kind === 'document') return { below: [], kept: [], apart: [], states: [], owners: [] };
-  const { path, list, object, folders } = state;
-  const states = statesBelow(found.nodes, { path, object, lists: [list, full],
-    ways: [folders, waysAfter(folders, opening)] });
-  const losing = changes.filter(({ more, isRemoval }) => !more && !isRemoval);
-  const affected = affectedBy(found.nodes, opening, callers, changes);
-  return {
-    states, below: changesBelow(states, affected, changes),
-    kept: keptBelow(states, losing, tops),
-    owners: removingOwn(states, affected.filter(({ name }) => !removesOwn(tops.get(name).to))),
-    apart: found.nodes.filter((one) => isException(one) && one.list.protect),
-  };
+// Those whose own objects they may then remove, or no longer, where nothing else says it.
+function ownersOf(said, { inside, beside }, { path, kind }, changes) {
+  const [here, there] = [ofOwners(said, inside), ofOwners(said, beside)];
+  const lost = new Set(changes.filter(({ more, lost, to }) => !more
+    && (lost.length > 0 || !removesOwn(to))).map(({ id }) => id));
+  return { owners: [...here.gaining.filter((one) =>
+    !removesOwn(said.extentAt(path, kind, one)?.level)), ...there.gaining],
+  losers: here.losing.filter(({ id }) => !lost.has(id)) };
 }
 
 // Whether I lose the list by this: null, or {loss, exact, givers, nobody}.
-function lockOf({ list, object, me, known }, after, callers, tops) {
-  const exact = known?.members ? callers.find(({ user }) => user === me) : undefined;
-  const place = { entries: after.entries, object };
-  const isKept = exact && [...'Cc'].every((letter) => isGranted(place, letter, exact));
-  const loss = isKept ? null : lossOf(list, after, me, object);
-  return loss && { loss, exact: exact !== undefined, nobody: grantsNobody(after.entries, 'C'),
-    givers: callers.filter(({ name }) => tops.get(name).to === 'manage') };
+function lockOf({ path, me }, said, after) {
+  const loss = lossOf(said, path, { me, after });
+  const managers = said.callers.filter((caller) => !caller.isPerhaps
+    && said.at(path, caller)?.mask.includes('C'));
+  return loss && { loss, exact: said.asked.isExact, givers: managers, nobody: loss.isNobody };
 }
-
-// Those who have to be let pass: whoever gains something here, and whom this is about. Everyone at
-// once is no caller who could be.
-function comingTo(gains, callers, subject) {
-  const gaining = gains.filter(({ user, groups }) => user !== null || groups.length > 0);
-  if (subject?.isLeaving) return gaining;
-  const names = new Set(gaining.map(({ name }) => name));
-  return [...gaining, ...callers.filter((one) => isMeant(subject)(one) && !names.has(one.name))];
-}
-
-// 'state' is what share.js shows, 'next' the list that would be sent, and 'subject' whom it is
-// about, or null. Returns all that is said of it, by what 'looking' saw further down until now.
-export async function outcomeOf(state, next, subject = null) {
-  const { path, kind, list, object, folders } = state;
-  const last = folders.at(-1);
-  const after = afterSending(next, list, path === '/' ? null : last.list ?? undefined, kind);
-  const found = belowOf(state);
-  const near = callersAround(state, [list, next, after], found.nodes);
-  const folder = last?.list ? { entries: last.list.entries, object: last.object } : null;
-  const sides = [list, after].map(({ entries }) => ({ target: { entries, object, kind }, folder }));
-  const byList = changesOf(...sides, near).filter(({ more }) => more);
-  const opening = await openings(state, comingTo(byList, near, subject), subject);
-  const opened = openedBy(state, opening);
-  const callers = opened === NOTHING ? near
-    : callersAround(state, [list, next, after], [...found.nodes, ...opened.nodes]);
-  // Whoever is let pass may also do what others lines here gave already.
-  const changes = changesOf(...sides, callers, [folders, waysAfter(folders, opening)]);
-  const tops = new Map(callers.map((one) => [one.name, extentOf(sides[1].target, folder, one)]));
-  const full = { ...next, entries: after.entries };
-  const inside = changesInside(state, found, { full, opening, callers, changes, tops });
-  const beside = besideOf(state, opening, opened, callers);
-  const isLeaving = subject?.isLeaving === true;
-  return {
-    changes, opening, apart: inside.apart, kept: inside.kept,
-    owners: [...inside.owners, ...beside.owners],
-    gains: changes.filter(({ more }) => more), losses: changes.filter(({ more }) => !more),
-    below: [...inside.below, ...beside.changes], isKnown: after.known,
-    keptFrom: await keptFrom(state, inside.states, subject),
-    left: isLeaving ? await leftovers(state, next, subject) : [],
-    back: isLeaving ? await furtherLines(state, next, keptBy(inside, subject), subject) : [],
-    removal: await removalOf(kind, { path, entries: list.entries, object },
-      { path, entries: after.entries, object, protect: next.protect }, () => protectedIn(found)),
-    ...linesIn(list, after, kind), lock: lockOf(state, after, callers, tops),
-    isAll: found.all && opened.all, unread: together(found.unread, opened.unread),
-  };
-}
-
-// Where the one who is taken off the list keeps something.
-const keptBy = ({ states, kept }, subject) => states.filter(({ path }) =>
-  kept.some((one) => one.path === path && one.kept.some(isMeant(subject))));
 
 // What is told of the lines of both lists.
 function linesIn(list, after, kind) {
@@ -160,15 +67,80 @@ function linesIn(list, after, kind) {
       entries.some((entry) => isGroup(entry) && entry.mask !== '')) };
 }
 
+// What is sure, and what isn't since it isn't known who is in which groups.
+const surely = (changes) => changes.filter(({ isPerhaps, owns }) => !isPerhaps || owns);
+const perhapsIn = (changes) => changes.filter(({ isPerhaps, owns }) => isPerhaps && !owns);
+const each = (places, of) => places.map((one) => ({ ...one, changes: of(one.changes, one) }))
+  .filter((one) => one.changes.length > 0);
+
+// {after, gaining, opening}: what can be said of a list before anything further down is seen.
+export async function nearOf(state, next, subject) {
+  const { path, kind, list, folders } = state;
+  const last = folders.at(-1);
+  const after = afterSending(next, list, path === '/' ? null : last.list ?? undefined, kind);
+  return { after, ...await wayOf(state, after, subject) };
+}
+
+// What was seen of what is asked about: {nodes, inside, beside, seen}.
+function nodesOf(state, opening) {
+  const [found, opened] = [belowOf(state), openedBy(state, opening)];
+  const nodes = opened !== NOTHING && opened.all ? opened.nodes : found.nodes;
+  const isHere = ({ path }) => isBelow(path, state.path);
+  return { nodes, inside: nodes.filter(isHere), found,
+    beside: nodes.filter((one) => !isHere(one) && one.path !== state.path
+      && !opening.some(({ path }) => path === one.path)),
+    isAll: found.all && opened.all, unread: together(found.unread, opened.unread) };
+}
+
+// 'state' is what share.js shows, 'next' the list that would be sent, 'near' what nearOf says of
+// it, and 'subject' whom it is about, or null. Returns all that is said of it, by what 'looking'
+// saw further down until now.
+export async function outcomeOf(state, next, subject, near) {
+  const { path, kind, list, known, me } = state;
+  const { after, opening } = near;
+  const { nodes, inside, beside, found, ...seen } = nodesOf(state, opening);
+  const said = await foresee({ objects: objectsRound(state, nodes), known, me, changes: [
+    ...opening.filter((one) => one.next !== null)
+      .map((one) => ({ set: one.path, text: printList(one.next) })),
+    { set: path, text: printList(next) }] });
+  const top = { path, kind };
+  const all = changesAt(said, top);
+  const changes = surely(all);
+  const full = { ...next, entries: after.entries };
+  const lists = listsThen(inside, path, full);
+  const places = inside.filter((one) => isException(one) && lists.has(one.path))
+    .map((one) => ({ ...one, list: lists.get(one.path) }));
+  const losing = changes.filter(({ more, isRemoval }) => !more && !isRemoval);
+  const kept = keptBelow(said, inside, losing, top);
+  const below = [...changesBelow(said, inside, all, path), ...besideOf(said, opening, beside)];
+  const isLeaving = subject?.isLeaving === true;
+  const ofSubject = places.filter((place) => kept.some((one) => one.path === place.path
+    && one.kept.some(isMeant(subject))));
+  return {
+    changes, opening, kept, ...seen, ...ownersOf(said, { inside, beside }, top, changes), asked: said.asked,
+    apart: inside.filter((one) => isException(one) && one.list.protect),
+    gains: changes.filter(({ more }) => more), losses: changes.filter(({ more }) => !more),
+    below: each(below, surely), isKnown: after.known,
+    perhaps: { changes: perhapsIn(all), below: each(below, perhapsIn) },
+    keptFrom: await keptFrom(state, places, subject),
+    left: isLeaving ? await leftovers(state, next, subject) : [],
+    back: isLeaving ? await furtherLines(state, next, ofSubject, subject) : [],
+    removal: removalOf(said, top, { nodes: inside, all: found.all, protect: next.protect }),
+    ...linesIn(list, after, kind), lock: lockOf(state, said, after),
+  };
+}
+
 // Calls 'draw' with what comes of a list, and with whether more is looked for further down: soon,
 // and again until all of it was seen or 'isWanted()' no longer holds.
 export async function followOutcome(state, next, subject, isWanted, draw) {
-  if (state.looking.isOld) state.looking.forget();
-  // This says what has to be looked at.
-  let first = await outcomeOf(state, next, subject);
-  if (state.looking.isBusy) first = null;
-  await state.looking.follow(async (isBusy) => {
-    const outcome = first ?? await outcomeOf(state, next, subject);
+  const { looking } = state;
+  if (looking.isOld) looking.forget();
+  belowOf(state);
+  looking.run();
+  const near = await nearOf(state, next, subject);
+  openedBy(state, near.opening);
+  await looking.follow(async (isBusy) => {
+    const outcome = await outcomeOf(state, next, subject, near);
     if (isWanted()) draw(outcome, isBusy);
   }, isWanted);
 }

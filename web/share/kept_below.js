@@ -1,6 +1,5 @@
 // Those who may remove by a new list, and can't further down, where a line keeps things in place.
 
-import { isException } from '../acl/inherit.js';
 import { isKeep, letRemove, readLevels } from '../acl/levels.js';
 import { isInherited, printList } from '../acl/entries.js';
 import { mayChange } from './passage.js';
@@ -13,16 +12,15 @@ const isRemover = ({ level }) => level === 'remove' || level === 'manage';
 
 // The places where those whom a change is about can't remove what others made, though they then may
 // above, from below: {steps: [{path, before, next}], others: [path]}. The steps let them, and the
-// others' lists I may not change. 'states' are what lies below, as it is then.
-export async function keptFrom(state, states, subject) {
+// others' lists I may not change. 'places' lie below, with their lists as they are then.
+export async function keptFrom(state, places, subject) {
   const subjects = subjectsOf(subject).filter((one) => isRemover(one) && !one.isLeaving);
   const isTheirs = (row) => subjects.some(({ who, isGroup }) =>
     row.who === who && row.isGroup === isGroup);
-  const hasLine = ({ kind, sides }) => kind === 'folder'
-    && sides[1].list.entries.some((entry) => isKeep(entry) && !isInherited(entry));
+  const hasLine = ({ kind, list }) => kind === 'folder'
+    && list.entries.some((entry) => isKeep(entry) && !isInherited(entry));
   const found = subjects.length === 0 ? []
-    : states.filter((one) => isException(one) && hasLine(one)).flatMap(({ path, sides }) => {
-      const { list } = sides[1];
+    : places.filter(hasLine).flatMap(({ path, list }) => {
       const rows = readLevels(list, 'folder').rows.filter((row) => row.inherited && row.barred
         && isTheirs(row));
       return rows.length === 0 ? []

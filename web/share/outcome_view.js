@@ -2,7 +2,9 @@
 
 import { texts } from '../language/language.js';
 import { element, icon } from '../ui/dom.js';
-import { MOST_NAMED, hintsOf, saidLines, lockWords, offersOf, warningsOf } from './access_words.js';
+import {
+  MOST_NAMED, hintsOf, lockWords, offersOf, perhapsLines, saidLines, warningsOf,
+} from './access_words.js';
 
 const MARKS = { gain: 'plus', loss: 'dash', same: 'check' };
 
@@ -19,6 +21,10 @@ const restOf = (rest) => (rest.length === 0 ? null : element('details', {},
 const lineShown = ({ look, head, words, names, rest = [] }) => element('li', { class: look },
   icon(MARKS[look]), element('div', {},
     element('p', {}, element('b', {}, head), ` ${words}`), allOf(names), restOf(rest)));
+
+const perhapsShown = (lines) => (lines.length === 0 ? null : element('details', {},
+  element('summary', {}, texts.would.perhaps),
+  element('ul', { class: 'changes' }, lines.map(lineShown))));
 
 // What somebody ticked or not is kept in 'ticks', since it may be drawn anew.
 function tick({ words, isOn, key }, ticks) {
@@ -47,6 +53,7 @@ export function tellOutcome(state, outcome, subject = null, ticks = new Map()) {
   const shown = element('div', { class: 'outcome' },
     element('ul', { class: 'changes', 'aria-label': texts.outcome.changes },
       saidLines(state, outcome, subject).map(lineShown)),
+    perhapsShown(perhapsLines(state, outcome)),
     hintsOf(state, outcome).map((words) => element('p', { class: 'hint' }, words)),
     offers.map((one) => tick(one, ticks)), warnings(state, outcome, subject));
   // What lies in another one goes first, so that the other one is still as it was seen.

@@ -2,14 +2,38 @@
 // that do nothing else.
 
 import * as api from '../net/api.js';
-import { barring, isGranted, mayPass } from '../acl/decide.js';
-import { callersFor, isNeeded, statesBelow } from './who_can.js';
+import { alone, imaginedIn, keptAlone, objectsAlone } from '../acl/question.js';
+import { changesAt } from './who_can.js';
 import { entriesOf, isLineOf, keyOf, readLevels } from '../acl/levels.js';
-import { isGroup, isInherited, printEntry, printList } from '../acl/entries.js';
+import { isInherited, printEntry, printList } from '../acl/entries.js';
+import { foresee } from '../net/would.js';
 import { isOld } from '../net/directory.js';
-import { isMeantBy, subjectsOf } from './subjects.js';
+import { wayObjects, withImagined } from '../net/pieces.js';
+import { isMeant, isMeantBy, subjectsOf } from './subjects.js';
 import { ownText, seeList, setIfSame } from '../net/matched_list.js';
 import { isUnanswered } from '../net/retry.js';
+
+// The objects of a question about what is shown: the way, the object, and what was seen further
+// down, which may begin above it.
+export function objectsRound({ path, kind, text, object, folders }, nodes) {
+  const way = wayObjects(folders);
+  const known = new Set([path, ...way.map((one) => one.path)]);
+  const depth = (one) => one.path.split('/').length;
+  const rest = nodes.filter((one) => !known.has(one.path))
+    .sort((one, other) => depth(one) - depth(other));
+  return withImagined([...way, { path, kind, text, object }, ...rest],
+    kind === 'folder' ? [path] : []);
+}
+
+// Those who have to be let pass: whoever gains something here, and whom this is about. Everyone at
+// once is no caller who could be.
+function comingTo(gains, callers, subject) {
+  const gaining = gains.filter(({ user, groups }) => user !== null || groups.length > 0);
+  if (subject?.isLeaving) return gaining;
+  const ids = new Set(gaining.map(({ id }) => id));
+  const meant = callers.filter((one) => !one.isPerhaps && isMeant(subject)(one));
+  return [...gaining, ...meant.filter(({ id }) => !ids.has(id))];
+}
 
 // Asked once for each panel, which may be drawn several times.
 export function mayChange({ changeable }, path) {
@@ -33,31 +57,38 @@ function openedFor(list, callers, subject) {
   return (barred.length > 0 ? barred : those).reduce(opened, list);
 }
 
-// The folders that bar those who gain something, and what would let them pass, from the top down:
-// [{path, callers, next, before, folder}]. 'next' is null where I may not change the list, or where
-// that won't do.
-export async function openings(state, gaining, subject) {
-  const { folders } = state;
-  const barred = new Map();
-  for (const caller of gaining) {
-    for (const path of barring(folders, caller)) {
-      barred.set(path, [...barred.get(path) ?? [], caller]);
-    }
-  }
-  return Promise.all(folders.filter(({ path }) => barred.has(path)).map(async (folder) => {
+// Whoever gains something by the list alone, and whom each folder on the way doesn't let pass: one
+// question about all these lists by themselves. Returns {gaining, opening}, of which 'opening' has
+// the folders that bar somebody, from the top down: [{path, callers, next, before, folder}]. 'next'
+// is null where I may not change the list, or where that won't do.
+export async function wayOf(state, after, subject) {
+  const { folders, kind, list, object, known, me } = state;
+  const read = folders.filter((one) => one.list !== null);
+  const isOffered = subject !== null && subject.isLeaving !== true;
+  const named = read.flatMap((folder, at) => [
+    { name: `b${at}`, kind: 'folder', list: folder.list, object: folder.object },
+    ...isOffered ? [{ name: `o${at}`, kind: 'folder', object: folder.object,
+      list: openedFor(folder.list, [], subject) }] : []]);
+  const objects = objectsAlone([...named, { name: 't', kind, list, object }]);
+  const top = objects.at(-1);
+  const said = await foresee({ known, me,
+    objects: kind === 'folder' ? [...objects, ...imaginedIn(top)] : objects,
+    changes: [{ set: top.path, text: keptAlone(after) }] });
+  const gaining = comingTo(changesAt(said, top).filter(({ more }) => more), said.callers, subject);
+  const passes = (name) => (caller) =>
+    said.at(alone(name), caller)?.mask.includes('x') === true;
+  const barred = read.map((folder, at) => ({ folder, at,
+    callers: gaining.filter((caller) => !passes(`b${at}`)(caller)) }))
+    .filter(({ callers }) => callers.length > 0);
+  const opening = await Promise.all(barred.map(async ({ folder, at, callers }) => {
     const { path } = folder;
-    const callers = barred.get(path);
-    const isOffered = subject !== null && await mayChange(state, path);
-    const next = isOffered ? openedFor(folder.list, callers, subject) : null;
-    const lets = next !== null && callers.every((caller) =>
-      isGranted({ entries: next.entries, object: folder.object }, 'x', caller));
-    return { path, callers, folder, before: folder.text, next: lets ? next : null };
+    const may = isOffered && await mayChange(state, path);
+    const lets = may && callers.every(passes(`o${at}`));
+    return { path, callers, folder, before: folder.text,
+      next: lets ? openedFor(folder.list, callers, subject) : null };
   }));
+  return { gaining, opening };
 }
-
-// The folders above as they are once these are opened.
-export const waysAfter = (folders, opening) => folders.map((folder) => (
-  { ...folder, list: opening.find(({ path }) => path === folder.path)?.next ?? folder.list }));
 
 function withoutLine(list, subject) {
   const key = keyOf({ who: subject.who, flags: subject.isGroup ? 'g' : '' });
@@ -66,31 +97,36 @@ function withoutLine(list, subject) {
   return row && { ...list, entries: list.entries.filter((entry) => !row.entries.includes(entry)) };
 }
 
-const allowing = ({ list }) => list.entries.filter(({ type, mask }) => type === 'A' && mask !== '');
-
-// Whether it is known who is in the groups by which somebody may need the line: those that are
-// given something further down, and that don't pass by themselves.
-function areGroupsKnown({ known }, states, way) {
-  if (known?.members && !isOld(known.made)) return true;
-  const groups = new Set(states.flatMap(allowing).filter(isGroup).map(({ who }) => who));
-  return [...groups].every((group) => mayPass([way], { user: null, groups: [group] }));
+// Whether a caller can do something further down that goes without the line: more than to pass.
+function isNeeded([base, without], caller, nodes) {
+  const of = (said, { path, kind }) => said.extentAt(path, kind, caller)?.all ?? [];
+  const beyond = ({ mask, removes }, kind) =>
+    `${kind === 'folder' ? mask.replace(/[xt]/g, '') : mask} ${removes}`;
+  return nodes.some((node) => of(base, node).some((row, at) =>
+    beyond(row, node.kind) !== beyond(of(without, node)[at] ?? row, node.kind)));
 }
+
+// Whether it is known who is in the groups by which somebody may need the line: those that don't
+// pass by themselves.
+const areGroupsKnown = ({ known }, said, path) => (known?.members && !isOld(known.made))
+  || said.callers.filter(({ user, groups }) => user === null && groups.length === 1)
+    .every((caller) => said.at(path, caller)?.mask.includes('x'));
 
 async function leftoverAt(folder, state, next, subject) {
   const without = folder.list && withoutLine(folder.list, subject);
   if (!without || !(await mayChange(state, folder.path))) return null;
   const { nodes, unread, all } = state.looking.below(folder.path);
-  const states = statesBelow(nodes, { path: folder.path, object: folder.object,
-    lists: [folder.list, folder.list], ways: [[], []] }, new Map([[state.path, next]]));
-  const place = { entries: folder.list.entries, object: folder.object };
-  const meant = callersFor([place], [], state.known).filter(({ user, groups }) =>
-    (subject.isGroup ? groups.includes(subject.who) : user === subject.who));
-  // Somebody may be in the group of whom nothing is known.
-  const callers = subject.isGroup ? [...meant, { user: null, groups: [subject.who] }] : meant;
-  const way = { ...folder, list: without };
-  const isRedundant = callers.every((caller) => mayPass([way], caller));
-  if (!isRedundant && isNeeded(states, callers)) return null;
-  const isSeen = all && unread.length === 0 && areGroupsKnown(state, states, way);
+  const sets = [{ set: state.path, text: printList(next) }];
+  const ask = (changes) => foresee({ changes, known: state.known, me: state.me,
+    objects: objectsRound(state, nodes) });
+  const both = await Promise.all([ask(sets),
+    ask([...sets, { set: folder.path, text: printList(without) }])]);
+  const meant = both[1].callers.filter(isMeantBy(subject));
+  const isRedundant = meant.every((caller) =>
+    both[1].at(folder.path, caller)?.mask.includes('x'));
+  const places = [...nodes, { path: state.path, kind: state.kind }];
+  if (!isRedundant && meant.some((caller) => isNeeded(both, caller, places))) return null;
+  const isSeen = all && unread.length === 0 && areGroupsKnown(state, both[1], folder.path);
   return { path: folder.path, before: folder.text, next: without, sure: isRedundant || isSeen };
 }
 
@@ -108,15 +144,14 @@ export async function leftovers(state, next, subject) {
 const MOST_PLACES = 50;
 
 // The lines of one who is taken off a list that stand further down, from below: [{path, before,
-// next, isSame}]. 'isSame' says that they say nothing but what is taken away with 'next'. 'states'
-// are what follows, as it is then.
-export async function furtherLines(state, next, states, subject) {
+// next, isSame}]. 'isSame' says that they say nothing but what is taken away with 'next'. 'places'
+// have their lists as they are then.
+export async function furtherLines(state, next, places, subject) {
   const sent = next.entries.map(printEntry);
   const gone = state.list.entries.filter((entry) => !sent.includes(printEntry(entry)));
   const isGone = (entry) => gone.some((one) => one.type === entry.type && one.flags === entry.flags
     && one.who === entry.who && [...entry.mask].every((letter) => one.mask.includes(letter)));
-  const found = states.flatMap(({ path, sides }) => {
-    const { list } = sides[1];
+  const found = places.flatMap(({ path, list }) => {
     const lines = list.entries.filter((entry) => isLineOf(entry, subject));
     const without = { ...list, entries: list.entries.filter((entry) => !lines.includes(entry)) };
     return lines.length === 0 ? []

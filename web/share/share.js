@@ -8,7 +8,6 @@ import { attributesAt, foldersAbove } from '../net/ancestors.js';
 import { button, element, icon } from '../ui/dom.js';
 import { hasUnsentAt } from '../acl/draft.js';
 import { endWords } from '../acl/end_dates.js';
-import { callersFor, removes } from './who_can.js';
 import { confirm } from './confirm.js';
 import { isException, passedDown } from '../acl/inherit.js';
 import { closedUp, joined, readLevels } from '../acl/levels.js';
@@ -26,6 +25,10 @@ import { onlyThese } from './only_these.js';
 import { unreadNames } from '../text/unread.js';
 import { shortened } from '../text/who_is.js';
 import { isolated, sentenceOf } from '../text/words.js';
+import { noAnswerWords } from '../text/would_words.js';
+import { foresee } from '../net/would.js';
+import { toTell } from '../acl/callers.js';
+import { UNNAMED, keptAlone, objectsAlone } from '../acl/question.js';
 
 const MOST_NAMED = 6;
 const FIELD = '.picker input';
@@ -99,22 +102,33 @@ function openNote(state, again) {
     state.isMine ? button(texts.access.letOnly, keep, { class: 'small' }) : null);
 }
 
-// Those who may remove the object, though its own lines don't say so.
-function removersNote({ kind, list, object, known, folders, model }) {
+// Those who may remove the object, though its own lines don't say so: by what the list of the
+// folder and its own say, whoever gets there.
+async function removersWords({ kind, list, object, me, known, folders, model }) {
   const above = folders.at(-1);
-  if (above === undefined) return null;
   const place = placeName(above.path);
   if (above.list === null) return texts.access.removersUnseen(place, kind);
-  const target = { entries: list.entries, object };
-  const folder = { entries: above.list.entries, object: above.object };
+  const [root, folder] = objectsAlone([{ name: 'b', kind: 'folder', ...above }]);
+  const target = { path: `${folder.path}/${UNNAMED}t`, kind, text: keptAlone(list), object };
+  const said = await foresee({ objects: [root, folder, target], known, me });
   const saying = model.rows.filter(({ level }) => level === 'manage' || level === 'remove');
   const isSaid = ({ user, groups }) => saying.some(({ who, isGroup }) =>
     (isGroup ? groups.includes(who) : user === who));
-  const found = callersFor([target, folder], [], known)
-    .filter((caller) => !isSaid(caller) && removes(target, folder, caller));
-  if (found.length === 0) return null;
-  const names = shortened(found.map(shownName(known)), MOST_NAMED);
-  return texts.access.removers(place, names, kind);
+  const found = toTell(said.callers.filter((caller) => !isSaid(caller)
+    && said.at(target.path, caller)?.removes)
+    .map((caller) => ({ caller, says: new Set(['removes']) }))).map(({ caller }) => caller);
+  return found.length === 0 ? null : texts.access.removers(place,
+    shortened(found.map(shownName(known)), MOST_NAMED), kind);
+}
+
+// The same, as soon as there is an answer.
+function removersNote(state) {
+  if (state.path === '/') return null;
+  const made = element('div', {});
+  removersWords(state).catch(noAnswerWords).then((words) => {
+    if (words !== null) made.replaceChildren(hintOf(words));
+  });
+  return made;
 }
 
 const placeLink = ({ path, list }) => element('li', {},
@@ -175,7 +189,7 @@ function view(state, again, pick) {
     note(state), openNote(state, again), element('h2', {}, texts.page.whoHasAccess),
     accessRows(state, again), model.ended.map(endedHint), model.loose.map(looseHint),
     hintOf(model.own && kind === 'folder' ? texts.access.own : null),
-    hintOf(removersNote(state)), following(state, again), exceptions(state));
+    removersNote(state), following(state, again), exceptions(state));
 }
 
 // In the place of a list that I may not read.

@@ -6,8 +6,8 @@ import { isolated } from './words.js';
 
 const UNREAD = { 'OWNER@': texts.who.unknownOwner, 'GROUP@': texts.who.unknownGroup };
 
-// 'asked' is what was asked, and 'known' what people() says.
-export function partyName({ user, groups, owns }, { isExact }, known) {
+// 'known' is what people() says.
+export function partyName({ user, groups, owns, isExact }, known) {
   if (owns) return UNREAD[owns];
   if (user !== null) {
     const name = isolated(fullName(known, user));

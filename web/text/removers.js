@@ -1,67 +1,49 @@
-// Who could remove by a new list what others made, and couldn't before, and the sentences about it,
-// before it is sent. Whoever may remove something may also rename it and move it away.
+// Who could remove by a new list what others made, and couldn't before, as the program answered it,
+// and the sentences about that. Whoever may remove something may also rename it and move it away.
 
+import { AFTER, BEFORE } from '../acl/answer.js';
+import { shared, toTell } from '../acl/callers.js';
 import { KEEP } from '../acl/levels.js';
-import { callersIn, isGranted, mayDelete } from '../acl/decide.js';
-import { childOf, ofOthers } from '../acl/inherit.js';
-import { protectedBelow } from '../net/ancestors.js';
-import { parentOf } from '../net/api.js';
+import { imagined } from '../acl/question.js';
 import { texts } from '../language/language.js';
-import { callerWords, placeWords, sentenceOf } from './words.js';
+import { partyName } from './parties.js';
+import { placeWords, sentenceOf } from './words.js';
 
 const MOST_NAMED = 3;
+const isIn = (path, folder) => path.startsWith(folder === '/' ? '/' : `${folder}/`);
 
-// What others made in a folder that follows its list. Folders are {entries, object}.
-const childrenOf = (folder) => ['folder', 'document'].map((kind) => childOf(folder, kind));
-
-// The folder itself, and those below that follow its list.
-const levelsOf = (folder) => [folder, childOf(folder, 'folder')];
-
-const isRemover = (target, folder, caller) => mayDelete(target, folder, caller) === 'yes';
-export const mayRemoveIn = (folder, caller) => levelsOf(folder).some((level) =>
-  childrenOf(level).some((child) => isRemover(child, level, caller)));
-
-// Whether an entry says so, and not only the right to put documents there.
-const isSaid = (folder, caller) => levelsOf(folder).some((level) => isGranted(level, 'D', caller)
-  || childrenOf(level).some((child) => isGranted(child, 'd', caller)));
-
-// Whether the caller may move this protected folder away, or one on the way to it.
-function mayMove({ path, list }, top, caller) {
-  const [here, below] = levelsOf(top);
-  const target = { entries: list.entries, object: ofOthers(top.object.group) };
-  if (parentOf(path) === top.path) return isRemover(target, here, caller);
-  return isRemover(below, here, caller) || isRemover(target, below, caller);
+// The protected folders of these that aren't in another one.
+function outermost(nodes) {
+  const shut = nodes.filter(({ kind, list }) => kind === 'folder' && list?.protect);
+  return shut.filter(({ path }) => !shut.some((one) => isIn(path, one.path)));
 }
 
-// The callers for whom something holds by the list 'after' that doesn't by 'before'.
-const gaining = (before, after, holds) => callersIn(after.entries, after.object)
-  .filter((caller) => holds(after, caller) && !holds(before, caller));
-
-const isManager = (folder, caller) => isGranted(folder, 'C', caller);
-
-// Who may then remove what others made in a folder, whose protected folders are 'below': {callers,
-// isSaid, shut: paths, all, fault}, or null.
-export function insideOf(before, after, below) {
-  const callers = gaining(before, after, mayRemoveIn);
-  const shut = below.found.filter((one) => callers.some((caller) => mayMove(one, after, caller)));
-  const told = shut.length > 0 ? callers : callers.filter((caller) => !isManager(after, caller));
-  return told.length === 0 ? null : { callers: told, all: below.all, fault: below.fault,
-    isSaid: told.some((caller) => isSaid(after, caller)), shut: shut.map(({ path }) => path) };
+// For a list that is about to be sent: {inside, itself: callers, opens}; 'inside' is {callers,
+// isSaid, shut: paths, all, fault} or null, of which 'isSaid' is false where only the right to put
+// documents there says so. 'nodes' are what was seen below, 'all' whether that is all of it, and
+// 'protect' whether the list is then cut off.
+export function removalOf(said, { path, kind }, { nodes, all, protect, fault = null }) {
+  const extent = (caller, side) => said.extentAt(path, kind, caller, side);
+  const gaining = (word) => shared(toTell(said.callers.filter((caller) => {
+    const [had, has] = [BEFORE, AFTER].map((side) => extent(caller, side));
+    return has?.[word] && had !== null && !had[word];
+  }).map((caller) => ({ caller, says: new Set(['removes']) })))).map(({ caller }) => caller);
+  const isManager = (caller) => extent(caller, AFTER).level === 'manage';
+  const says = (caller) => said.at(path, caller).raw.includes('D')
+    || Object.values(imagined(path)).some((one) => said.at(one, caller)?.raw.includes('d'));
+  // Whether the caller may move this one away, or a folder on the way to it.
+  const mayMove = (one, caller) => [one, ...nodes.filter((node) => isIn(one.path, node.path))]
+    .some((node) => said.at(node.path, caller)?.removes);
+  const callers = kind === 'folder' ? gaining('inside') : [];
+  const shut = outermost(nodes).filter((one) => callers.some((each) => mayMove(one, each)));
+  const told = shut.length > 0 ? callers : callers.filter((one) => !isManager(one));
+  const inside = told.length === 0 ? null : { callers: told, all, fault,
+    isSaid: told.some(says), shut: shut.map((one) => one.path) };
+  const itself = path === '/' ? [] : gaining('it').filter((one) => !isManager(one));
+  return { inside, itself, opens: inside !== null || (itself.length > 0 && !protect) };
 }
 
-// For a list that is about to be sent: {inside, itself: callers, opens}. Both are {path, entries,
-// object}: 'before' as the room has it, and 'after' as it will be, with 'protect'. 'look' finds the
-// protected folders below.
-/** @param {(path: string) => any} look */
-export async function removalOf(kind, before, after, look = protectedBelow) {
-  const itself = after.path === '/' ? [] : gaining(before, after, (folder, caller) =>
-    isGranted(folder, 'd', caller)).filter((caller) => !isManager(after, caller));
-  const isInside = kind === 'folder' && gaining(before, after, mayRemoveIn).length > 0;
-  const inside = isInside ? insideOf(before, after, await look(after.path)) : null;
-  return { inside, itself, opens: inside !== null || (itself.length > 0 && !after.protect) };
-}
-
-const named = (callers, known) => callers.map((one) => callerWords(one, known));
+const named = (callers, known) => callers.map((one) => partyName(one, known));
 
 // How folders that have a list of their own are called, by one or several and by their names.
 const PROTECTED = [texts.warnings.includesProtected,

@@ -1,81 +1,104 @@
-// What a list would bring about that its author may not want, as sentences, before it is sent.
+// What a list would bring about that its author may not want, as sentences, before it is sent. The
+// program is asked.
 
-import {
-  ANYBODY, added, callersOf, grantsNobody, hindrance, keepsRight, oneUser, withOthers,
-} from '../acl/decide.js';
-import { printEntry, readListText } from '../acl/entries.js';
+import { ANY_OTHER } from '../acl/callers.js';
+import { isGroup, isInherited, printList, readListText } from '../acl/entries.js';
 import { afterSending } from '../acl/inherit.js';
+import { alone, objectsAlone } from '../acl/question.js';
 import { texts } from '../language/language.js';
 import { attributesAt, foldersAbove } from '../net/ancestors.js';
 import * as api from '../net/api.js';
-import { people } from '../net/directory.js';
+import { lookBelow } from '../net/crawl.js';
+import { fullName, people } from '../net/directory.js';
+import { wayObjects, withImagined } from '../net/pieces.js';
+import { foresee } from '../net/would.js';
+import { lossOf, lossWords } from './loss.js';
 import { removalOf, removalWords } from './removers.js';
-import { callerWords, isolated, placeWords } from './words.js';
+import { isolated, placeWords } from './words.js';
+import { noAnswerWords } from './would_words.js';
 
-// Whether I might lose this right, C or c, by the new list: null, or {letter, answer, depends,
-// entry, isNobody}.
-function loss(letter, before, after, me, object) {
-  const found = keepsRight(letter, before, after, withOthers(oneUser(me)), object);
-  return found.answer === 'yes' ? null
-    : { letter, ...found, isNobody: grantsNobody(after.entries, letter) };
+// The own entries of 'sent' that allow something to those whom no entry of 'before' allowed
+// anything.
+export function added(sent, before) {
+  const same = (one, other) => one.who === other.who && isGroup(one) === isGroup(other);
+  const allowing = (entries) => entries.filter((entry) => entry.type === 'A' && entry.mask !== '');
+  const known = allowing(before.entries);
+  const fresh = allowing(sent.entries)
+    .filter((entry) => !isInherited(entry) && !known.some((one) => same(one, entry)));
+  return fresh.filter((entry, index) => fresh.findIndex((one) => same(one, entry)) === index);
 }
 
-// Whether I might lose the list: its change, or else its sight.
-export const lossOf = (...words) => loss('C', ...words) ?? loss('c', ...words);
+const isEverybody = ({ who }) => who === 'EVERYONE@' || who === 'AUTHENTICATED@';
 
-// What an answer depends on, in words.
-function dependsWords(depends) {
-  const { owner, owningGroup, above, group } = texts.warnings.depends;
-  const words = { 'OWNER@': owner, 'GROUP@': owningGroup, above };
-  return depends.map((one) => words[one] ?? group(one.slice(2)));
+// The callers whom an entry means, or who may be among them.
+function meant(entry, callers, object) {
+  if (isEverybody(entry)) return callers.filter(({ key, owns }) => key === ANY_OTHER && !owns);
+  const who = { 'OWNER@': object.owner, 'GROUP@': object.group }[entry.who] ?? entry.who;
+  return isGroup(entry) || entry.who === 'GROUP@'
+    ? callers.filter(({ groups }) => groups.includes(who))
+    : callers.filter(({ user }) => user === who);
 }
 
-// Which list I may lose is said in the words of these two.
-const THIS_LIST = [texts.warnings.losesList, texts.warnings.perhapsLosesList];
-export const WHO_HAS_ACCESS = [texts.warnings.losesAccess, texts.warnings.perhapsLosesAccess];
-
-// The same in words: {title, text}. 'call' says how the list is called there.
-export function lossWords({ letter, answer, depends, entry, isNobody }, call = THIS_LIST) {
-  const [surely, perhaps] = call;
-  if (answer !== 'no') {
-    return { title: perhaps[letter],
-      text: texts.warnings.notSurely(letter, dependsWords(depends)) };
-  }
-  const why = (isNobody ? texts.warnings.letsNobody : texts.warnings.letsYouNot)(letter);
-  return { title: surely[letter],
-    text: entry ? texts.warnings.deniesYou(letter, isolated(printEntry(entry))) : why };
+// Where those whom an entry means aren't surely let pass, of [{path, rows}] with a row for each of
+// them, null where the list can't be read: {path, answer, depends}, or null.
+function hindrance(places) {
+  const judged = places.map(({ path, rows, callers }) => {
+    const passing = callers.filter((_, at) => rows?.[at]);
+    if (rows === null || passing.length === callers.length) {
+      return { path, answer: rows === null ? 'unread' : 'yes', depends: [] };
+    }
+    const groups = new Set(passing.flatMap((one) => one.groups));
+    return { path, answer: passing.length > 0 ? 'perhaps' : 'no', depends: [...groups] };
+  });
+  return judged.find(({ answer }) => answer === 'no')
+    ?? judged.find(({ answer }) => answer !== 'yes') ?? null;
 }
 
-// Whoever has signed in, in whichever groups they are.
-const EVERYBODY = withOthers(ANYBODY);
+function nameOf(entry, object, known) {
+  const who = { 'OWNER@': object.owner, 'GROUP@': object.group }[entry.who] ?? entry.who;
+  return isGroup(entry) || entry.who === 'GROUP@' ? texts.who.group(who)
+    : isolated(fullName(known, who));
+}
 
 // A sentence about one who can't get here, or perhaps not: {kind: 'bad' or 'unsure', text}.
-function passageWords(caller, found, known = null) {
-  const who = callerWords(caller, known);
+function passageWords(entry, found, who) {
   const place = found.path === null ? null : placeWords(found.path);
-  if (found.answer === 'no' || (caller === EVERYBODY && found.answer === 'perhaps')) {
-    return { kind: 'bad', text: caller === EVERYBODY ? texts.warnings.noPassageForAll(place)
+  if (found.answer === 'no' || (isEverybody(entry) && found.answer === 'perhaps')) {
+    return { kind: 'bad', text: isEverybody(entry) ? texts.warnings.noPassageForAll(place)
       : texts.warnings.noPassage(who, place) };
   }
   return { kind: 'unsure', text: found.answer === 'unread'
     ? texts.warnings.passageUnread(who, place)
-    : texts.warnings.passageDepends(who, place, dependsWords(found.depends)) };
+    : texts.warnings.passageDepends(who, place, found.depends.map(texts.warnings.depends.group)) };
 }
 
-// Sentences about those who are added and can't get here. 'folders' are those on the way, from the
-// top down.
-export function passageOf({ sent, before, after, kind, object, folders, known = null }) {
-  return added(sent, before).flatMap((entry) => {
-    const meant = callersOf(entry, object);
-    if (meant === null) return [];
-    const caller = meant === ANYBODY ? EVERYBODY : withOthers(meant);
+// Sentences about those who are added and can't get here, by what each list on the way says by
+// itself, and this one where it passes something on.
+async function passageOf({ fresh, after, kind, object, folders, known, me }) {
+  if (fresh.length === 0) return [];
+  const lists = [...folders.filter(({ list }) => list !== null).map((one, at) => (
+    { ...one, name: `b${at}`, kind: 'folder' })),
+  ...kind === 'folder' && after.known
+    ? [{ path: null, name: 't', kind, list: after, object }] : []];
+  const said = await foresee({ objects: objectsAlone(lists), known, me });
+  return fresh.flatMap((entry) => {
+    const callers = meant(entry, said.callers, object);
+    if (callers.length === 0) return [];
     const passesOn = kind === 'folder' && /[fd]/.test(entry.flags);
-    // What isn't known of this folder comes from the one above, which is told then.
-    const here = passesOn && after.known ? [{ path: null, list: after, object }] : [];
-    const found = hindrance([...folders, ...here], caller);
-    return found ? [passageWords(caller, found, known)] : [];
+    const at = (path) => lists.find((one) => one.path === path);
+    const row = (one) => callers.map((each) =>
+      said.at(alone(one.name), each)?.mask.includes('x') === true);
+    const places = [...folders.map(({ path }) => path), ...passesOn && at(null) ? [null] : []];
+    const found = hindrance(places.map((path) => (
+      { path, callers, rows: at(path) ? row(at(path)) : null })));
+    return found ? [passageWords(entry, found, nameOf(entry, object, known))] : [];
   });
 }
+
+// What was seen further down, or why nothing was: {nodes, all, fault}.
+const seenBelow = (kind, path) => (kind === 'folder' ? lookBelow(path).then(
+  ({ nodes, unread }) => ({ nodes, all: unread.length === 0, fault: null }),
+  (fault) => ({ nodes: [], all: false, fault })) : { nodes: [], all: true, fault: null });
 
 // {loss: {title, text} or null, warned: [{kind, text}]} for a draft that is about to be sent. 'now'
 // is the room's text.
@@ -84,18 +107,27 @@ export async function judged(draft, now) {
   const sent = draft.list;
   // What can't be read is refused by the room, and the list of records decides nothing.
   if (!before || !sent || draft.which !== 'dacl') return { loss: null, warned: [] };
-  const [me, object, folders, known] = await Promise.all([
-    api.whoAmI().catch(() => ''), attributesAt(draft.path),
-    foldersAbove(draft.path, added(sent, before).length > 0), people()]);
-  const { kind } = draft;
-  const above = draft.path === '/' ? null : folders.at(-1).list ?? undefined;
+  return asked(draft, { now, before, sent }).catch((fault) => {
+    const text = noAnswerWords(fault);
+    return { loss: { title: texts.would.title, text }, warned: [{ kind: 'unsure', text }] };
+  });
+}
+
+async function asked({ path, kind }, { now, before, sent }) {
+  const [me, object, folders, known, below] = await Promise.all([
+    api.whoAmI().catch(() => ''), attributesAt(path), foldersAbove(path, true), people(),
+    seenBelow(kind, path)]);
+  const above = path === '/' ? null : folders.at(-1).list ?? undefined;
   const after = afterSending(sent, before, above, kind);
-  const lost = lossOf(before, after, me, object);
-  const removal = await removalOf(kind, { path: draft.path, entries: before.entries, object },
-    { path: draft.path, entries: after.entries, object, protect: sent.protect });
-  return {
-    loss: lost && lossWords(lost),
-    warned: [...passageOf({ sent, before, after, kind, object, folders, known }),
-      ...removalWords(kind, removal, known)],
-  };
+  const depth = (one) => one.path.split('/').length;
+  const nodes = below.nodes.sort((one, other) => depth(one) - depth(other));
+  const [passage, said] = await Promise.all([
+    passageOf({ fresh: added(sent, before), after, kind, object, folders, known, me }),
+    foresee({ known, me, changes: [{ set: path, text: printList(sent) }],
+      objects: withImagined([...wayObjects(folders), { path, kind, text: now, object }, ...nodes],
+        kind === 'folder' ? [path] : []) })]);
+  const lost = lossOf(said, path, { me, after });
+  const removal = removalOf(said, { path, kind }, { ...below, nodes, protect: sent.protect });
+  return { loss: lost && lossWords(lost),
+    warned: [...passage, ...removalWords(kind, removal, known)] };
 }

@@ -4,7 +4,6 @@ import { isGroup, isInherited, readEntry } from '../acl/entries.js';
 import { UNREADABLE, namesOf } from '../net/api.js';
 import { mostBytes } from '../net/large.js';
 import { texts } from '../language/language.js';
-import { fullName } from '../net/directory.js';
 import { doorWords } from './door_words.js';
 import { marked } from './invisible.js';
 
@@ -51,12 +50,6 @@ export const whoWords = (entry) => nameIn(texts.who.special, entry,
 // The same as the object of a sentence.
 export const whomWords = (entry) => nameIn(texts.who.whom.special, entry,
   isGroup(entry) ? texts.who.whom.group : texts.who.whom.user);
-
-// Those who are judged, as decide.js has them, by their names as far as these are 'known'.
-export function callerWords({ user, groups }, known = null) {
-  if (user !== null) return isolated(fullName(known, user));
-  return groups.length === 0 ? texts.who.everyone : texts.who.group(groups[0]);
-}
 
 // Where an entry counts, by its flags f, d, n, i, in the order in which they are offered.
 export const REACHES = ['', 'fd', 'f', 'd', 'fdi', 'fi', 'di', 'fdn']

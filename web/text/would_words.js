@@ -3,9 +3,12 @@
 import { texts } from '../language/language.js';
 import { sentenceOf } from './words.js';
 
+// Whether it is the program that has no answer.
+export const isUnsaid = (fault) => fault.asked?.word === 'would';
+
 // Why there is no answer. What else failed is told as what it is.
 export function noAnswerWords(fault) {
-  if (fault.asked?.word !== 'would') return sentenceOf(fault);
+  if (!isUnsaid(fault)) return sentenceOf(fault);
   const line = String(fault.body?.line ?? '');
   if (fault.status === 413 || line.includes(' W6 ')) return texts.would.tooMuch;
   return fault.status === 400 && fault.body?.why === 'refused' ? texts.would.changed
