@@ -86,7 +86,9 @@ alone 'who may remove it' '"[dDw]", "(allowed|denied)"' \
   services/rooms_services/door/folders/goes.py "${of_admin[@]}" "${of_services[@]}"
 alone 'who may remove it, by the page' "[dDw] === '[AD]' (\\|\\||\\?)" web/acl/decide.js \
   'web/*/*.js'
-alone 'an entry rules a right, by the page' 'isRuling\(|bitsOf\(' web/acl/decide.js 'web/*/*.js'
+alone 'an entry rules a right, by the page' \
+  '(isRuling|isGranted|mayPass|mayDelete|isMember|isOwner|matchOf|bitsOf)\(' web/acl/decide.js \
+  'web/*/*.js'
 alone 'which day it is' 'toISOString\(\)[.]slice\(0, 10\)|getDate\(\)|T23:59' web/net/clock.js \
   'web/*/*.js'
 alone 'which signs are invisible' 'u3164|u2800|u200[bef]|u202[ae]' web/tables/invisible_signs.js \

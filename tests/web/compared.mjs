@@ -1,18 +1,16 @@
-// What the web interface says of rights, of removing, and of what is passed down by a change of a
-// list and by a move, against what the program does with a room at random:
-// node compared.mjs PAGE PROGRAM FOLDER ROUNDS
+// What the web interface says of what is passed down by a change of a list and by a move, against
+// what the program does with a room at random: node compared.mjs PAGE PROGRAM FOLDER ROUNDS
 // In each round a room is made in FOLDER and served. After each of its changes all lists are
-// compared, and all rights of all users by 'rooms review'. The status is 1 if something differs.
+// compared. The status is 1 if something differs.
 import { execFileSync, spawn } from 'node:child_process';
-import { copyFileSync, existsSync, mkdirSync, rmSync, writeFileSync } from 'node:fs';
+import { mkdirSync, writeFileSync } from 'node:fs';
 import { Agent, request } from 'node:http';
 import { resolve } from 'node:path';
 import { pathToFileURL } from 'node:url';
 
 const [page, program, folder, rounds] = process.argv.slice(2);
 const module = (name) => import(`${pathToFileURL(resolve(page)).href}/${name}`);
-const [decide, inherit, lists] = await Promise.all(
-  ['decide.js', 'inherit.js', 'entries.js'].map(module));
+const [inherit, lists] = await Promise.all(['inherit.js', 'entries.js'].map(module));
 
 let seed = 11;
 const random = (most) => {
@@ -23,16 +21,13 @@ const pick = (all) => all[random(all.length)];
 const ALL = 'rwanNxDtThHdcCoy';
 const GROUPS = { staff: ['bob', 'carol'], sales: ['carol', 'dana'] };
 const USERS = ['alice', 'bob', 'carol', 'dana'];
-const groupsOf = (user) => Object.keys(GROUPS).filter((group) => GROUPS[group].includes(user));
-// Whoever isn't named has what any other name has.
-const CALLERS = [...USERS.map((user) => ({ row: user, user, groups: groupsOf(user) })),
-  { row: '*', user: null, groups: [] }];
 const WHO = [...USERS.map((user) => [user, '']), ['staff', 'g'], ['sales', 'g'], ['OWNER@', ''],
   ['GROUP@', ''], ['EVERYONE@', ''], ['AUTHENTICATED@', ''], ['ANONYMOUS@', '']];
 const MASKS = ['rxtc', 'rwaxtc', 'rwaxDtc', ALL, 'x', 'wx', 'd', 'D', 'w'];
 const LINES = ['D:d:EVERYONE@:Dd', 'A:fi:OWNER@:d'];
-const count = { rights: 0, removals: 0, lists: 0 };
+const RIGHTS = 'rxwaDtdcCo';
 const told = [];
+let count = 0;
 
 function lineAtRandom(kind) {
   const line = random(8) === 0 ? pick(LINES) : null;
@@ -40,7 +35,7 @@ function lineAtRandom(kind) {
   const [who, group] = pick(WHO);
   const reach = kind === 'folder' ? pick(['', 'fd', 'fd', 'd', 'fi', 'di', 'f', 'fdn', 'fn']) : '';
   const mask = random(2) === 0 ? pick(MASKS)
-    : [...decide.RIGHTS].filter(() => random(2) === 1).join('');
+    : [...RIGHTS].filter(() => random(2) === 1).join('');
   return `${pick('AAAD')}:${reach}${group}:${who}:${mask}`;
 }
 
@@ -160,54 +155,8 @@ class Room {
   async compareLists(what) {
     for (const { path, list } of this.objects.values()) {
       const [is, mine] = [await this.ask('GET', `/dacl${path}`), lists.printList(list)];
-      count.lists += 1;
+      count += 1;
       if (is !== mine) told.push(`${what}: ${path} has\n${is}not\n${mine}`);
-    }
-  }
-
-  // Rows of 'rooms review', of a copy of the room, since the room is served.
-  review() {
-    for (const ending of ['', '-wal']) {
-      rmSync(`${folder}/copy${ending}`, { force: true });
-      const file = this.file + ending;
-      if (existsSync(file)) copyFileSync(file, `${folder}/copy${ending}`);
-    }
-    const rows = execFileSync(program, ['review', '--all', `${folder}/copy`, '/'],
-      { maxBuffer: 1 << 26 }).toString().trim().split('\n').slice(1);
-    return new Map(rows.map((row) => {
-      const [path, , user, rights, remove] = row.split(',');
-      return [`${path} ${user}`, { rights, remove: remove === 'yes' }];
-    }));
-  }
-
-  wayTo(path) {
-    const names = path.split('/').slice(1);
-    return path === '/' ? [] : names.map((_, at) =>
-      this.objects.get(`/${names.slice(0, at).join('/')}`));
-  }
-
-  compareRights(what) {
-    const rows = this.review();
-    for (const { path, list, object } of this.objects.values()) {
-      for (const caller of CALLERS) {
-        const row = rows.get(`${path} ${caller.row}`);
-        const passes = decide.mayPass(this.wayTo(path), caller);
-        const is = [...decide.RIGHTS].filter((letter) => row.rights.includes(letter)).join('');
-        const place = { entries: list.entries, object };
-        const mine = [...decide.RIGHTS].filter((letter) => passes
-          && decide.judge(list.entries, letter, caller, object).answer === 'yes'
-          && decide.isGranted(place, letter, caller)).join('');
-        count.rights += decide.RIGHTS.length;
-        const say = (one) => told.push(`${what}: ${caller.row} at ${path}: ${one}\n${
-          lists.printList(list)}${JSON.stringify(object)}`);
-        if (is !== mine) say(`${is}, not ${mine}`);
-        if (path === '/') continue;
-        const folderOf = this.above(path);
-        const may = passes && decide.mayDelete(place,
-          { entries: folderOf.list.entries, object: folderOf.object }, caller) === 'yes';
-        count.removals += 1;
-        if (row.remove !== may) say(`removes: ${row.remove}, not ${may}`);
-      }
     }
   }
 }
@@ -220,11 +169,10 @@ for (let number = 0; number < Number(rounds); number += 1) {
   for (let turn = 0; turn < 24; turn += 1) {
     const what = random(3) === 0 ? await room.move() : await room.change();
     await room.compareLists(what);
-    if (turn % 2 === 0) room.compareRights(what);
   }
   room.stop();
 }
 for (const one of told.slice(0, 3)) console.log(one);
-console.log(`${count.rights} rights, ${count.removals} removals, ${count.lists} lists`);
+console.log(`${count} lists`);
 console.log(`${told.length} differ`);
 process.exitCode = told.length === 0 ? 0 : 1;

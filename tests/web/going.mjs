@@ -51,7 +51,7 @@ const { movedWords } = await module('moved.js');
 
 const ownOf = (kind) => Array.from({ length: random(4) }, () => {
   const [who, group] = pick([...USERS.slice(1).map((user) => [user, '']),
-    ...Object.keys(GROUPS).map((one) => [one, 'g']), ...Object.keys(GROUPS).map((one) => [one, 'g']),
+    ...[...Object.keys(GROUPS), ...Object.keys(GROUPS)].map((one) => [one, 'g']),
     ['OWNER@', ''], ['AUTHENTICATED@', '']]);
   const reach = kind === 'folder' ? pick(['fd', 'fd', 'fd', '', 'f', 'fi', 'd']) : '';
   return entryOf(`${pick(['A', 'A', 'A', 'A', 'D'])}:${reach}${group}:${who}:${

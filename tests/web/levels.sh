@@ -1,5 +1,5 @@
-# The levels of web, and who gains and loses by a list, by node: the lists of docs/lists.md
-# there and back, lists at random, and rights that the program itself judges.
+# The levels of web, and who gains and loses by a change, by node: the lists of docs/lists.md there
+# and back, lists at random, and what is asked of the program.
 
 if ! has node ||
   ! node -e 'process.exit(Number(process.versions.node.split(".")[0]) < 18 ? 1 : 0)'; then
@@ -57,10 +57,7 @@ print(len(known) > 200, [hex(one) for one in codes if signs.is_seen(chr(one))],
 else
   skip 'accesses that end' 'missing: /usr/bin/python3'
 fi
-node_says 'what somebody keeps further down, or owns on the way' '0 told' "$here/web/node.mjs" \
-  "$here/web/keeping.js" page "$here/../docs/lists.md" 0
-node_says 'what is granted, where something is not known' '0 told' "$here/web/node.mjs" \
-  "$here/web/deciding.js" page "$here/../docs/lists.md" 20000
+node_says 'what is said before a list is sent' '72 tried, 0 faults' "$here/web/warning.mjs" page
 node_says 'for whom a change is asked about' '50 tried, 0 faults' "$here/web/callers.mjs" page
 node_says 'what is asked and answered about a change' '2000 tried, 0 faults' \
   "$here/web/asking.mjs" page 2000
@@ -70,8 +67,8 @@ for members in known unknown; do
   node_says "what is said of a move, members $members" '500 tried, 0 faults' \
     "$here/web/going.mjs" page 500 "$members"
 done
-node_says 'what the panel says of one click, in rooms at random' '20000 tried, 0 faults' \
-  "$here/web/unsaid.mjs" page 20000
+node_says 'what the panel says of one click, in rooms at random' '1500 tried, 0 faults' \
+  "$here/web/unsaid.mjs" page 1500
 node_says 'what was seen further down, after changes' '300 tried, 0 faults' \
   "$here/web/crawling.mjs" page 300
 node_says 'what may not be read, and a room that is away' '42 tried, 0 faults' \
@@ -91,6 +88,5 @@ if has python3; then
 else
   skip 'who may remove what' 'missing: python3'
 fi
-# More than 100,000 answers of the program.
-node_says 'rights, removals and lists, as the program has them' '0 differ' \
+node_says 'lists after changes and moves, as the program has them' '0 differ' \
   "$here/web/compared.mjs" page "$rooms" "$PWD/compared" 6

@@ -222,7 +222,7 @@ PLAY = [
     ('the ready-made lists', Office.ready_made),
     ('a ready-made list is sent', Office.sent_ready_made),
     ('entries.js, by the examples of docs', Office.list_tests),
-    ('what lists would grant, by the rules of docs', Office.judging_tests),
+    ('what is passed down, by the rules of docs', Office.judging_tests),
     ('it fits a phone', Office.fits_a_phone),
     ('all has names', Office.labels),
     ('it follows the dark setting', Office.dark),

@@ -48,8 +48,8 @@ export const isException = ({ list, kind }) => list !== null && (list.protect
 // An object that somebody else made in a folder whose group is this one.
 export const ofOthers = (group) => ({ owner: '', group });
 
-// The lists below a folder as they are once its own is this one, as far as they can be read: path to
-// list. 'nodes' come from the top down.
+// The lists below a folder as they are once its own is this one, as far as they can be read: path
+// to list. 'nodes' come from the top down.
 export function listsThen(nodes, path, list) {
   const found = new Map([[path, list]]);
   for (const node of nodes) {

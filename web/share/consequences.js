@@ -117,7 +117,8 @@ export async function outcomeOf(state, next, subject, near) {
   const ofSubject = places.filter((place) => kept.some((one) => one.path === place.path
     && one.kept.some(isMeant(subject))));
   return {
-    changes, opening, kept, ...seen, ...ownersOf(said, { inside, beside }, top, changes), asked: said.asked,
+    changes, opening, kept, ...seen, asked: said.asked,
+    ...ownersOf(said, { inside, beside }, top, changes),
     apart: inside.filter((one) => isException(one) && one.list.protect),
     gains: changes.filter(({ more }) => more), losses: changes.filter(({ more }) => !more),
     below: each(below, surely), isKnown: after.known,

@@ -196,11 +196,11 @@ function view(state, again, pick) {
 async function unseen(path, kind) {
   const [ask, rulings] = await Promise.all([
     askedFor(path), api.can(path, 'rw').catch(() => null)]);
-  const isGranted = (letter) => rulings?.[letter].ruling === 'allowed';
+  const has = (letter) => rulings?.[letter].ruling === 'allowed';
   const changing = kind === 'document' ? texts.access.canChangeDocument : texts.access.canPutInto;
-  const reading = (isGranted('r') ? texts.access.canRead : texts.access.cantRead)(kind);
+  const reading = (has('r') ? texts.access.canRead : texts.access.cantRead)(kind);
   return element('div', { class: 'empty' },
-    element('p', {}, isGranted('w') ? changing : reading), element('p', {}, ask));
+    element('p', {}, has('w') ? changing : reading), element('p', {}, ask));
 }
 
 // Shows who has access in 'box', as long as 'isCurrent()'.

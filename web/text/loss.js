@@ -39,7 +39,8 @@ function loss(letter, said, path, { me, after }) {
     entry: denying(after.entries, letter, me), isNobody: !said.callers.some((one) => has(one)) };
 }
 
-// Whether I lose the list by this: its change, or else its sight. 'after' is what afterSending says.
+// Whether I lose the list by this: its change, or else its sight. 'after' is what afterSending
+// says.
 export const lossOf = (...words) => loss('C', ...words) ?? loss('c', ...words);
 
 // Which list I may lose is said in the words of these two.

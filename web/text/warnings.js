@@ -35,7 +35,8 @@ function meant(entry, callers, object) {
   if (isEverybody(entry)) return callers.filter(({ key, owns }) => key === ANY_OTHER && !owns);
   const who = { 'OWNER@': object.owner, 'GROUP@': object.group }[entry.who] ?? entry.who;
   return isGroup(entry) || entry.who === 'GROUP@'
-    ? callers.filter(({ groups }) => groups.includes(who))
+    ? callers.filter(({ user, groups, isExact }) => groups.includes(who)
+      && (isExact || user === null))
     : callers.filter(({ user }) => user === who);
 }
 
@@ -47,7 +48,9 @@ function hindrance(places) {
     if (rows === null || passing.length === callers.length) {
       return { path, answer: rows === null ? 'unread' : 'yes', depends: [] };
     }
-    const groups = new Set(passing.flatMap((one) => one.groups));
+    const [fewest] = passing.sort((one, other) => one.groups.length - other.groups.length);
+    const groups = new Set(passing.filter((one) =>
+      one.groups.length === fewest?.groups.length).flatMap((one) => one.groups));
     return { path, answer: passing.length > 0 ? 'perhaps' : 'no', depends: [...groups] };
   });
   return judged.find(({ answer }) => answer === 'no')
