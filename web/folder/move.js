@@ -75,11 +75,12 @@ export async function accepted(objects, folder) {
   const told = await waitFor(movedWords(objects, folder)).catch(unanswered);
   if (told === null || told.warned.length + told.perhaps.length === 0) return told !== null;
   const answer = await showDialog(told.title, (finish) => [
-    told.warned.length === 0 ? null : warnings(told.warned), folded(told.perhaps),
+    element('div', {}, told.warned.length === 0 ? null : warnings(told.warned),
+      folded(told.perhaps)),
     element('div', { class: 'actions' },
       button(texts.acts.cancel, () => finish(null), { autofocus: true }),
       told.isKnown === false
-        ? button(texts.acts.tryAgain, () => finish('again'), { class: 'primary' }) : null,
+        ? button(texts.acts.anew, () => finish('again'), { class: 'primary' }) : null,
       button(texts.moving.allTheSame, () => finish('move'), { class: 'danger' }))]);
   return answer === 'again' ? accepted(objects, folder) : answer !== null;
 }

@@ -94,10 +94,10 @@ export class Told {
   fail(fault, again) {
     this.told = { ways: () => [], left: () => [] };
     this.text = null;
-    this.box.replaceChildren(element('div', { class: 'outcome' },
+    this.box.replaceChildren(element('div', { class: 'outcome', 'aria-busy': 'false' },
       element('ul', { class: 'warnings', 'aria-label': texts.acts.mindThis },
         element('li', { class: 'unsure' }, noAnswerWords(fault))),
-      button(texts.acts.tryAgain, again, { class: 'small' })));
+      button(texts.acts.anew, again, { class: 'small' })));
     this.line.draw(false);
     this.send.disabled = false;
   }

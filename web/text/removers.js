@@ -7,9 +7,10 @@ import { KEEP } from '../acl/levels.js';
 import { imagined } from '../acl/question.js';
 import { texts } from '../language/language.js';
 import { partyName } from './parties.js';
+import { shortened } from './who_is.js';
 import { placeWords, sentenceOf } from './words.js';
 
-const MOST_NAMED = 3;
+const [MOST_NAMED, MOST_CALLERS] = [3, 6];
 const isIn = (path, folder) => path.startsWith(folder === '/' ? '/' : `${folder}/`);
 
 // The protected folders of these that aren't in another one.
@@ -43,7 +44,8 @@ export function removalOf(said, { path, kind }, { nodes, all, protect, fault = n
   return { inside, itself, opens: inside !== null || (itself.length > 0 && !protect) };
 }
 
-const named = (callers, known) => callers.map((one) => partyName(one, known));
+const named = (callers, known) =>
+  shortened(callers.map((one) => partyName(one, known)), MOST_CALLERS);
 
 // How folders that have a list of their own are called, by one or several and by their names.
 const PROTECTED = [texts.warnings.includesProtected,
