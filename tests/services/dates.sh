@@ -144,6 +144,19 @@ rows='{"kind":"document","name":"left","size":6,"when":T,"who":"bob"}'
 plan='{"kind":"document","name":"plan","size":5,"when":T,"who":"alice"}'
 is_now 'a client that left has its line' /f "$rows,$plan" alice:a
 
+# Of what the room may have done, and was killed before it answered, nothing is told.
+kill -STOP "$server"
+curl -s -o /dev/null -w '%{http_code}\n' -u bob:b -X PUT --data-binary 1234567 "$base/doc/f/plan" \
+  >answered &
+asking=$!
+sleep 0.5
+kill -KILL "$server"
+wait "$asking" "$server" 2>/dev/null
+holds "the room was killed before it answered: $(cat answered)" grep -qx 502 answered
+start_room F 1000000 || return
+rows='{"kind":"document","name":"left","size":6,"when":T,"who":"bob"}'
+is_now 'nobody knows of it' /f "$rows,{\"kind\":\"document\",\"name\":\"plan\"}" alice:a
+
 # What was denied or refused leaves no line, and what is read neither; no body is written down.
 size_of() { stat -c %s "$1"; }
 before=$(size_of $journal)
@@ -223,5 +236,19 @@ ask 'the folder' 200 "{\"at\":\"/f\",\"closed\":[],$rows,\"shows\":null}" alice:
 holds 'the door has no fault' [ "$(grep -c Traceback office.err)" = 0 ]
 holds 'nor has nginx' [ "$(grep -c -e emerg -e alert error.log)" = 0 ]
 stop_proxy
+
+# By HTTP/2 somebody takes back what the room never got, who may do nothing there.
+sets office DATES who
+start_door office "${dated[@]}"
+if certify_front && start_front 'dates by HTTP/2' tls; then
+  before=$(size_of $journal)
+  python3 "$here/lib/taken_back.py" rooms.pem "$secure" dave:d /doc/f/plan
+  is_in_log() { grep -q 'PUT /doc/f/plan" 499' rooms.log; }
+  began=$SECONDS
+  until is_in_log || [ $((SECONDS - began)) -ge 10 ]; do sleep 0.1; done
+  holds 'a request that is taken back' is_in_log
+  holds 'leaves no line' [ "$(size_of $journal)" = "$before" ]
+  stop_proxy
+fi
 stop_server
 gives 'the room is sound' 0 'sound\n' '' verify F
