@@ -148,6 +148,24 @@ if certify_front && start_front 'limits of HTTP/2' tls; then
     [ "$asked" -gt 1000 -a "$grown" -lt 450000 ]
   holds 'it has some of them' grep -q ' - - \[.*\] "GET /" 401 ' rooms.log
   stop_proxy
+  # Nor has anybody to say there how long a document is.
+  sets office LARGEST 20
+  start_front 'limits of HTTP/2' tls || return
+  for method in PUT POST; do
+    rm -f met
+    mkfifo until
+    python3 "$here/lib/unsized.py" "$secure" bob:b "$method" /door/doc/plan 6 8000000 \
+      <until >met &
+    holding=$!
+    exec 9>until
+    began=$SECONDS
+    until [ -s met ] || [ $((SECONDS - began)) -ge "$patience" ]; do sleep 0.1; done
+    most=17000000
+    [ "$method" = PUT ] || most=6000000
+    holds "six of 8 MB by $method: $(waiting) bytes wait on the disk" [ "$(waiting)" -le "$most" ]
+    let_go
+  done
+  stop_proxy
 fi
 stop_others
 stop_server
