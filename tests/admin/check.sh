@@ -181,11 +181,15 @@ checks 'where none are searched' 0 'rooms OK'
 mkdir -p root/proc/sys/user
 echo 0 >root/proc/sys/user/max_user_namespaces
 none='rooms CRITICAL - office: this machine allows no namespaces of users, so these can'\''t start:'
+of_all='rooms@office rooms-full@office rooms-door@office rooms-wait@office rooms-would@'
+of_all+=' rooms-picture@'
 checks 'no namespaces of users' 2 \
-  "$none rooms@office rooms-full@office rooms-door@office rooms-would@ rooms-earlier: sysctl user."
-settings EARLIER=no
-checks 'for earlier nights, where nobody sees any' 2 \
-  'rooms-full@office rooms-door@office rooms-would@: sysctl'
+  "$none $of_all rooms-own-password@ rooms-earlier: sysctl user."
+settings EARLIER=no OWN_PASSWORDS=no
+checks 'for what there is alone' 2 "$none $of_all: sysctl"
+settings EARLIER=no OWN_PASSWORDS=no SEARCH=yes SEARCH_SCANS=9
+checks 'and for searches' 2 \
+  "$none $of_all rooms-texts rooms-texts-night@ rooms-extract@ rooms-scan@: sysctl"
 settings
 echo no >private
 checks 'units that want none' 0 'rooms OK'

@@ -22,7 +22,8 @@ inside 'systemctl restart rooms@office'
 none='this machine allows no namespaces of users, so these can'\''t start:'
 inside 'rooms-admin check'
 told 'without any' 2 \
-  "$none rooms@office rooms-full@office rooms-door@office rooms-would@ rooms-earlier: " \
+  "$none rooms@office rooms-full@office rooms-door@office rooms-wait@office rooms-would@ \
+rooms-picture@ rooms-own-password@ rooms-earlier: " \
   "rooms@office doesn't answer"
 does 'systemd says' 'journalctl -u rooms@office --no-pager -o cat'
 holds 'why, as the page has it' grep -q 'Failed to set up user namespacing: ' "$work/out"
@@ -39,7 +40,8 @@ does 'a server without one, as the page says' "mkdir -p $own &&
 until_inside 'is served' "[ \"\$($asks/can/?)\" = 200 ]"
 inside 'rooms-admin check'
 told 'the others are told' 2 \
-  "$none rooms-full@office rooms-door@office rooms-would@ rooms-earlier: sysctl"
+  "$none rooms-full@office rooms-door@office rooms-wait@office rooms-would@ rooms-picture@ \
+rooms-own-password@ rooms-earlier: sysctl"
 does 'it goes' "rm -r $own; systemctl daemon-reload"
 allows 100
 does 'where there are some again' 'systemctl restart rooms@office'

@@ -102,6 +102,7 @@ in_place probed probe.py
 : >wanted
 same 'what it can do: nothing' did wanted
 sees_no_other rooms-picture /run/rooms-picture/socket
+shows 'where there is no memory it goes first' rooms-picture@0 OOMScoreAdjust 1000
 inside 'cat /sys/fs/cgroup/cgroup.controllers'
 if [[ " $(cat "$work/out") " = *' memory '* && " $(cat "$work/out") " = *' pids '* ]]; then
   in_place bounded 'bounds.py 320'

@@ -105,7 +105,10 @@ does 'it is asked' "${said/rooms-extract/rooms-scan}"
 cp "$work/out" did
 can 'who reads a scan' ''
 rm -r "$machine/etc/systemd/system/rooms-scan@.service.d"
-for one in extract scan; do sees_no_other "rooms-$one" "/run/rooms-$one/socket"; done
+for one in extract scan; do
+  sees_no_other "rooms-$one" "/run/rooms-$one/socket"
+  shows 'where there is no memory it goes first' "rooms-$one@0" OOMScoreAdjust 1000
+done
 # One that takes what it can: time, memory, files, processes.
 cat >"$machine/usr/local/lib/takes.py" <<'END'
 import contextlib, os, resource, sys, time

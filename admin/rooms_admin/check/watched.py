@@ -310,10 +310,13 @@ def see_namespaces(room: Room) -> list[Finding]:
                 return []
     except OSError:
         return []
-    units = [room.unit, f"rooms-full@{room.name}",
-             f"rooms-door@{room.name}", "rooms-would@",
+    own = room.own_passwords and not room.behind and room.passwords == "file"
+    units = [room.unit, f"rooms-full@{room.name}", f"rooms-door@{room.name}",
+             f"rooms-wait@{room.name}", "rooms-would@", "rooms-picture@",
+             *(["rooms-own-password@"] if own else []),
              *(["rooms-earlier"] if room.shows_nights else []),
-             *(["rooms-texts"] if room.search else [])]
+             *(["rooms-texts", "rooms-texts-night@", "rooms-extract@"] if room.search else []),
+             *(["rooms-scan@"] if room.search and room.scans else [])]
     # Only an instance is known to show.
     want = [one for one in units if printed(
         ["systemctl", "show", "-p", "PrivateUsers", "--value",
