@@ -12,6 +12,27 @@ chmod 755 "$work" .
 printf '%s\n' root:{PLAIN}r alice:{PLAIN}a bob:{PLAIN}b eve:{PLAIN}e >rooms.htpasswd
 may_go=0
 one=2026-11-01.030000 two=2026-11-02.030000
+# A document in parts, as the door lays it there.
+parts_of() { # NAME: of the file of that name
+  python3 -IBc 'import os, sys
+sys.path.insert(0, sys.argv[1])
+from rooms_admin.room import in_parts
+name, whole, parts = sys.argv[2], in_parts.Sum(), []
+os.rename(name, name + ".all")
+with open(name + ".all", "rb") as source:
+    while part := whole.add(source.read(in_parts.LARGEST)):
+        parts.append((len(parts) + 1, in_parts.digest_of(part)))
+        with open(name + in_parts.end_of(len(parts)), "wb") as out:
+            out.write(part)
+size = os.path.getsize(name + ".all")
+for number in range(len(parts) + 1, in_parts.places_for(size) + 1):
+    open(name + in_parts.end_of(number), "w").close()
+with open(name, "wb") as out:
+    out.write(in_parts.Manifest(size, whole.digest, tuple(parts)).text())
+' "$repo/admin" "$1"
+}
+yes 'a line of a scan' | head -c 2200000 >scan.txt
+parts_of scan.txt
 # Alice manages letters, bob works there, eve reads. Two nights later bob has lost his folder.
 begin() {
   stop_server
@@ -28,6 +49,11 @@ begin() {
   room_does bob /doc/letters/tender/plans/roof.txt -X PUT --data-binary 'a flat roof'
   room_does bob /doc/letters/reply.txt -X PUT --data-binary 'Dear Sirs'
   room_does bob /doc/letters/kept.txt -X PUT --data-binary 'as ever'
+  room_does root /folder/scans -X POST
+  list_of /scans list:ap "A:fd:alice:$ALL" A:fd:bob:rxwaDtc A:fd:eve:rxtc
+  for part in scan.txt scan.txt~*; do
+    room_does bob "/doc/scans/$part" -X PUT --data-binary @"$part"
+  done
   at_rest keep_night "$one" 1
   room_does bob /doc/letters/tender/offer.txt -X PUT --data-binary 'the better offer'
   printf '%s\n' list:ap "A:fd:alice:$ALL" A:fd:bob:rxwaDtc >list.sent

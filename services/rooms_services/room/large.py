@@ -51,6 +51,14 @@ def count(ask: Asks, names: Names, rest: Rest | None = None) -> int:
     return number
 
 
+def count_of(ask: Asks, names: Names, rest: Rest | None = None) -> int:
+    """Those of a document that is there: a folder has none, whatever lies beside it."""
+    found = count(ask, names, rest)
+    if found and ask(about("GET", "folder", names)._replace(is_bare=True)).why != "wrong-kind":
+        return 0
+    return found
+
+
 def resting(numbers: Iterable[int], rest: Rest | None) -> Iterator[int]:
     for place, number in enumerate(numbers, 1):
         yield number

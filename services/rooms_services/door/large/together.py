@@ -30,7 +30,7 @@ def _from_the_last(count: int) -> Iterator[int]:
 
 def remove(ask: Asks, names: Names, rest: Rest | None = None) -> Reply:
     """The parts first, so that none is left of what is gone. One of it that can't go is emptied."""
-    count = large.count(ask, names, rest)
+    count = large.count_of(ask, names, rest)
     if count and _may_go(ask, names):
         used = _used(ask, names, count)
         for number in large.resting(_from_the_last(count), rest):
@@ -62,8 +62,8 @@ def _may_go(ask: Asks, names: Names) -> bool:
 def move(ask: Asks, names: Names, to: Names, rest: Rest | None = None) -> Reply:
     """The document last: it is where it was until all of it is at the new place. What isn't of it,
     and has no more than the name of a part, stays where it may not be moved."""
-    count = large.count(ask, names, rest) if names and to else 0
-    if not count or not large.is_there(ask, names) or large.is_there(ask, to):
+    count = large.count_of(ask, names, rest) if names and to else 0
+    if not count or large.is_there(ask, to):
         return ask(moving(names, to))
     large.refuse_long_name(to)
     used = _used(ask, names, count)
@@ -106,7 +106,7 @@ def set_at_all(ask: Asks, route: str, names: Names, body: bytes, rest: Rest | No
     """A list, or owners: of the parts first. One at which the caller may not do it any more has it
     already, by a request that was killed."""
     right = "o" if route == "attr" else "C"
-    count = large.count(ask, names, rest)
+    count = large.count_of(ask, names, rest)
     if count and _may(ask, names, right):
         for number in large.resting(_from_the_last(count), rest):
             place = large.part(names, number)
