@@ -1,9 +1,11 @@
 """The play of what takes long, of what fits a telephone, and of names with signs that can't be
 seen."""
 
+import os
+import signal
 import urllib.request
 
-MANY = 150
+MANY = 600
 BOX = 'return document.querySelector(arguments[0]).getBoundingClientRect().toJSON()'
 # A name that looks like a picture's, and one that ends with a blank. The family has joiners that
 # belong there.
@@ -13,12 +15,6 @@ FAMILY = 'a \U0001f468\u200d\U0001f469\u200d\U0001f467.txt'
 
 
 class Lasting:
-    def slow(self, latency):
-        """Each request takes so many milliseconds longer."""
-        self.alice.driver.execute_cdp_cmd('Network.enable', {})
-        self.alice.driver.execute_cdp_cmd('Network.emulateNetworkConditions', {
-            'offline': False, 'latency': latency, 'downloadThroughput': -1, 'uploadThroughput': -1})
-
     def count_and_stop(self):
         """A folder of many is removed with a count, and the rest stays if that is stopped."""
         alice = self.alice
@@ -26,7 +22,6 @@ class Lasting:
         for number in range(1, MANY + 1):
             self.ask('PUT', f'/doc/full/{number}', b'x')
         alice.open('')
-        self.slow(100)
         alice.act('Remove', 'full')
         alice.press('Remove it', 'dialog')
         alice.says('Remove full', css='.uploads h2')
@@ -34,11 +29,18 @@ class Lasting:
                     'a count')
         assert alice.texts('.uploads .count')[0].endswith(f' of {MANY + 1}'), \
             alice.texts('.uploads .count')
-        alice.press('Stop', '.uploads')
-        alice.says('Stopped.', f'of {MANY + 1} were removed. The rest is still there.')
+        os.kill(self.server, signal.SIGSTOP)
+        try:
+            alice.press('Stop', '.uploads')
+        finally:
+            os.kill(self.server, signal.SIGCONT)
+        alice.says('Stopped.', f'of {MANY + 1} were removed. Still there: full (',
+                   'documents and 1 folder)')
         assert not alice.all('.uploads')
-        assert len(self.ask('GET', '/folder/full')) > 2
-        self.slow(0)
+        left = self.ask('GET', '/folder/full').count('"name"')
+        assert 0 < left < MANY, left
+        said = f'{MANY - left} of {MANY + 1} were removed. Still there: full ({left} documents'
+        assert any(said in one for one in alice.texts('.notice')), alice.texts('.notice')
         alice.act('Remove', 'full')
         alice.press('Remove it', 'dialog')
         alice.says('full was removed')

@@ -129,7 +129,7 @@ class Leaving:
         alice = self.alice
         alice.open('#/many')
         alice.script("""window.realFetch = window.fetch;
-            window.fetch = async (...words) => { if (words[1]?.method === 'DELETE') {
+            window.fetch = async (...words) => { if (String(words[0]).startsWith('door/remove')) {
               await new Promise((resolve) => { setTimeout(resolve, 400); }); }
               return window.realFetch(...words); };""")
         for name in ('part 1.txt', 'part 2.txt', 'part 3.txt', 'part 4.txt'):

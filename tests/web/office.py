@@ -179,6 +179,7 @@ PLAY = [
     ('several at once', Office.selection),
     ('previews', Office.previews),
     ('many are removed, with a count and a stop', Office.count_and_stop),
+    ('what came after the question', Office.what_came_meanwhile),
     ('the panel of an upload', Office.faults_first),
     ('rows of a telephone', Office.rows_of_a_phone),
     ('signs that can’t be seen', Office.unseen_signs),

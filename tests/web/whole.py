@@ -71,6 +71,29 @@ class Whole:
         alice.press('Remove it', 'dialog')
         alice.says('half was removed')
 
+    def slow(self, latency):
+        """Each request takes so many milliseconds longer."""
+        self.alice.driver.execute_cdp_cmd('Network.enable', {})
+        self.alice.driver.execute_cdp_cmd('Network.emulateNetworkConditions', {
+            'offline': False, 'latency': latency, 'downloadThroughput': -1, 'uploadThroughput': -1})
+
+    def what_came_meanwhile(self):
+        """What somebody puts there after the question isn't removed with the rest."""
+        alice = self.alice
+        self.ask('POST', '/folder/asked')
+        self.ask('PUT', '/doc/asked/one', b'x')
+        alice.open('')
+        alice.act('Remove', 'asked')
+        alice.says('1 document', css='dialog')
+        self.ask('PUT', '/doc/asked/late', b'x')
+        alice.press('Remove it', 'dialog')
+        alice.says('Somebody else changed it meanwhile, so nothing was done')
+        assert '"late"' in self.names_of('/asked') and '"one"' in self.names_of('/asked')
+        alice.act('Remove', 'asked')
+        alice.says('2 documents', css='dialog')
+        alice.press('Remove it', 'dialog')
+        alice.says('asked was removed')
+
     def away_and_back(self):
         """A folder that is left and shown again has all that was uploaded meanwhile; of the files
         only the one fails that is gone from the computer."""

@@ -2,19 +2,14 @@
 // if something changed, and otherwise null.
 
 import * as api from '../net/api.js';
-import { amount, removalQuestion } from './subtree.js';
 import { element } from '../ui/dom.js';
 import { downloadOne, downloadWhole } from './download.js';
-import { whatGoes } from '../net/door.js';
-import { hasNights, nightsKept } from '../net/nights.js';
-import { wayBack } from '../text/night_words.js';
 import { inTurn } from './batch.js';
 import { texts } from '../language/language.js';
 import { linkTo } from '../ui/links.js';
-import { askedFor } from '../ui/ask_whom.js';
 import { accepted, askMove, askPlace } from './move.js';
 import { readersWords } from './moved.js';
-import { form, question, showDialog, tell, tellFault, waitFor } from '../ui/messages.js';
+import { form, showDialog, tell, waitFor } from '../ui/messages.js';
 import { openPdf, preview } from './preview.js';
 import { isolated, nameFault, placeWords, sentenceOf } from '../text/words.js';
 import { noAnswerWords } from '../text/would_words.js';
@@ -83,47 +78,6 @@ export async function moveAll(objects) {
   }
   const more = failed.length - 3 + (stopped ? 0 : left.length);
   if (more > 0) tell('bad', texts.moving.notMoved(more));
-  return { name: null };
-}
-
-// Which one may not be removed, and whom to ask.
-async function tellBarred({ path, at }) {
-  const why = element('a', { class: 'button small', href: linkTo(path, 'rights') },
-    texts.acts.why);
-  tell('bad', `${texts.folder.mayNotRemove(placeWords(path))} ${await waitFor(askedFor(at))}`, why);
-}
-
-// What comes back does so one by one, so nothing is removed of what couldn't be removed as a whole.
-export async function remove(objects) {
-  const { objects: all, unlisted: unseen, barred } = await waitFor(whatGoes(
-    api.parentOf(objects[0].path), objects.map(({ path }) => api.nameOf(path))));
-  if (barred !== null) {
-    await tellBarred(barred);
-    return null;
-  }
-  if (all.length === 0) {
-    tell('bad', texts.faults.nothingAt(placeWords(objects[0].path)));
-    return { name: null };
-  }
-  const nights = hasNights() ? await waitFor(nightsKept()).catch(() => null) : null;
-  const { title, text } = removalQuestion(objects, all, unseen, wayBack(nights));
-  const words = objects.length === 1 ? texts.folder.removeIt : texts.folder.removeThem;
-  if (!(await question(title, text, [['remove', words, 'danger']]))) return null;
-  const what = objects.length === 1 ? isolated(api.nameOf(objects[0].path)) : amount(objects);
-  // What is in a folder comes before it, so nothing after a fault could be removed either. First
-  // comes what may have something in it that I don't see: then it stays, and all else with it.
-  const isUnseen = ({ path }) => unseen.includes(path);
-  const order = [...all.filter(isUnseen), ...all.filter((one) => !isUnseen(one)).reverse()];
-  const { done, failed, stopped } = await inTurn(order, ({ path }) => api.remove(path),
-    { title: texts.folder.removing(what), told: texts.folder.removedSomeOf }, true);
-  if (stopped) tell('bad', texts.folder.stoppedRemoval(done, all.length));
-  else if (failed.length > 0) {
-    tellFault(failed[0].fault);
-    if (done > 0) tell('bad', texts.folder.removedSome(done, all.length));
-  } else {
-    const removed = objects.length === 1 ? texts.folder.removedOne : texts.folder.removedSeveral;
-    tell('good', removed(what));
-  }
   return { name: null };
 }
 

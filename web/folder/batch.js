@@ -27,7 +27,7 @@ async function once(objects, does, panel, stopsAtFault) {
   return { done, failed, left: [], stopped: false };
 }
 
-const askAgain = (title, fault) => showDialog(title, (finish) => [
+export const askAgain = (title, fault) => showDialog(title, (finish) => [
   element('p', {}, sentenceOf(fault)),
   element('div', { class: 'actions' },
     button(texts.folder.leaveThem, () => finish(null), { autofocus: true }),

@@ -17,6 +17,7 @@ import { finder } from './find.js';
 import { markAllClosed } from './closed_rows.js';
 import { chooseFile, folderBar } from './folder_bar.js';
 import { columnsOf, fillRows } from './known.js';
+import { removeObjects } from './removal.js';
 import { chosenOf, drawRows, newLook, shownOf } from './rows.js';
 import { tagSeen } from './safe_put.js';
 import { replaceBy, uploadAll } from './upload.js';
@@ -129,7 +130,7 @@ class FolderView {
       open: (child) => this.doing(() => acts.openInTab(path(child))),
       replace: (child) => this.replace(path(child)),
       move: (child) => this.doing(() => acts.move(path(child), child.kind)),
-      remove: (children) => this.doing(() => acts.remove(this.objects(children))),
+      remove: (children) => this.doing(() => removeObjects(this.objects(children))),
       copy: (child) => this.doing(() => acts.copyLink(path(child))),
       find: () => this.tools.filter.focus(),
     };
@@ -146,7 +147,7 @@ class FolderView {
 
   withChosen(what) {
     const objects = this.objects(chosenOf(this.look));
-    const does = { move: acts.moveAll, remove: acts.remove, download: acts.download }[what];
+    const does = { move: acts.moveAll, remove: removeObjects, download: acts.download }[what];
     return this.doing(() => does(objects, this.path));
   }
 

@@ -11,7 +11,7 @@ const amountOf = (documentsIn, foldersIn) => and([
   ...documentsIn > 0 ? [documents(documentsIn)] : [],
   ...foldersIn > 0 ? [`${number(foldersIn)} Ordner`] : []]);
 const removedOf = (done, whole) => `${number(done)} von ${number(whole)} ${
-  done === 1 ? 'wurde' : 'wurden'} entfernt. Der Rest ist noch da.`;
+  done === 1 ? 'wurde' : 'wurden'} entfernt.`;
 
 export const DE_FOLDER = {
   label: 'Ordner',
@@ -73,6 +73,8 @@ export const DE_FOLDER = {
   removedSome: removedOf,
   removedSomeOf: (done, whole) => `${number(done)} von ${number(whole)} entfernt`,
   stoppedRemoval: (done, whole) => `Angehalten. ${removedOf(done, whole)}`,
+  restUnknown: 'Was noch da ist, ist nicht bekannt: Sehen Sie nach.',
+  stillThere: (names, amount) => `Noch da: ${names} (${amount}).`,
   removedOne: (name) => `${name} wurde entfernt.`,
   removedSeveral: (amount) => `${amount} wurden entfernt.`,
   leaveThem: 'So lassen',

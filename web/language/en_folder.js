@@ -67,10 +67,12 @@ export const EN_FOLDER = {
   removeThem: 'Remove them',
   removing: (what) => `Remove ${what}`,
   removedSome: (done, whole) =>
-    `${number(done)} of ${number(whole)} were removed. The rest is still there.`,
+    `${number(done)} of ${number(whole)} were removed.`,
   removedSomeOf: (done, whole) => `${number(done)} of ${number(whole)} removed`,
   stoppedRemoval: (done, whole) =>
-    `Stopped. ${number(done)} of ${number(whole)} were removed. The rest is still there.`,
+    `Stopped. ${number(done)} of ${number(whole)} were removed.`,
+  restUnknown: 'It isn’t known what is still there: look.',
+  stillThere: (names, amount) => `Still there: ${names} (${amount}).`,
   removedOne: (name) => `${name} was removed.`,
   removedSeveral: (amount) => `${amount} were removed.`,
   leaveThem: 'Leave them',

@@ -10,7 +10,7 @@ const amountOf = (documentsIn, foldersIn) => and([
   ...documentsIn > 0 ? [documents(documentsIn)] : [],
   ...foldersIn > 0 ? [count(foldersIn, 'dossier', 'dossiers')] : []]);
 const removedOf = (done, whole) => `${number(done)} sur ${number(whole)} ${
-  done < 2 ? 'a été supprimé' : 'ont été supprimés'}. Le reste est toujours là.`;
+  done < 2 ? 'a été supprimé' : 'ont été supprimés'}.`;
 
 export const FR_FOLDER = {
   label: 'Dossier',
@@ -74,6 +74,8 @@ export const FR_FOLDER = {
   removedSomeOf: (done, whole) =>
     `${number(done)} sur ${number(whole)} ${done < 2 ? 'supprimé' : 'supprimés'}`,
   stoppedRemoval: (done, whole) => `Arrêté. ${removedOf(done, whole)}`,
+  restUnknown: 'On ne sait pas ce qui est encore là : regardez.',
+  stillThere: (names, amount) => `Toujours là : ${names} (${amount}).`,
   removedOne: (name) => `${name} a été supprimé.`,
   removedSeveral: (amount) => `${amount} ont été supprimés.`,
   leaveThem: 'Laisser ainsi',

@@ -5,29 +5,36 @@ import { DOCUMENT_OF_ROOM } from './large.js';
 import { untilAnswered } from './retry.js';
 
 // What the room would be asked for, so that a refusal is told in the same words.
-const WORDS = {
-  below: 'folder', closed: 'folder', find: 'folder', goes: 'folder', latest: 'folder',
-  left: 'object', pages: 'doc', places: 'doc', search: 'folder', zip: 'folder',
+const ROOM_ROUTES = {
+  below: 'folder', find: 'folder', goes: 'folder', latest: 'folder', left: 'object', pages: 'doc',
+  places: 'doc', remove: 'object', search: 'folder', zip: 'folder',
 };
 
-// Sends until there is an answer, for half a minute.
-const insisting = (send) => untilAnswered(() => send().catch(fromDoor));
+// Sends until the door answers, for half a minute.
+const untilDoorAnswers = (send) => untilAnswered(() => send().catch(fromDoor));
 
-// The reply in a form that fetch has, with its tag. 'given' is what fetch takes.
-async function ask(method, word, path, form, query = '', given = {}) {
-  const asked = { method, word: WORDS[word] ?? word, path };
+// The reply itself, with what was asked for, and what ends it if it is cut off. 'given' is what
+// fetch takes.
+async function send(method, word, path, query, given) {
+  const asked = { method, word: ROOM_ROUTES[word] ?? word, path };
   const lost = () => { throw new Refusal(given.signal?.aborted ? STOPPED : 0, null, asked); };
   const reply = await fetch(target(`door/${word}`, path) + query,
     { method, cache: 'no-store', ...given }).catch(lost);
   if (!reply.ok) {
     throw new Refusal(reply.status, jsonOrNull(await reply.text().catch(() => '')), asked);
   }
+  return { reply, asked, lost };
+}
+
+// The reply in a form that fetch has, with its tag.
+async function ask(method, word, path, form, query = '', given = {}) {
+  const { reply, lost } = await send(method, word, path, query, given);
   return { told: reply.status === 204 ? null : await reply[form]().catch(lost),
     tag: reply.headers.get('ETag'), pages: Number(reply.headers.get('Room-Pages')) };
 }
 
-const read = (word, path, query = '') => insisting(() => ask('GET', word, path, 'json', query))
-  .then(({ told }) => told);
+const read = (word, path, query = '') =>
+  untilDoorAnswers(() => ask('GET', word, path, 'json', query)).then(({ told }) => told);
 
 // What differs below a folder. 'apart' is a path below it: what lies on the way there is told by
 // itself.
@@ -106,17 +113,39 @@ function queriesOf(folder, names) {
 }
 
 // What goes with these names of a folder, each after the folder that it is in: {objects: [{path,
-// kind}], unlisted: [path], barred}. 'barred' is what the caller may not remove, as {path, at} with
-// the path of the list that says so, or null.
-export async function whatGoes(folder, names) {
-  const whole = { objects: [], unlisted: [], barred: null };
-  for (const query of queriesOf(folder, names)) {
-    const { objects, unlisted, barred } = await read('goes', folder, query);
-    whole.objects.push(...objects);
-    whole.unlisted.push(...unlisted);
-    whole.barred ??= barred;
+// kind}], unlisted: [path], barred, tag}. 'barred' is what the caller may not remove, as {path, at}
+// with the path of the list that says so, or null. 'tag' is another one once any of it is.
+export const whatGoes = (folder, names) => untilDoorAnswers(() => ask('POST', 'goes', folder,
+  'json', '', { body: JSON.stringify(names) })).then(({ told }) => told);
+
+// The lines of a reply, each as it comes.
+async function* linesOf({ reply, lost }) {
+  const reader = reply.body.pipeThrough(new TextDecoderStream()).getReader();
+  let rest = '';
+  for (;;) {
+    const { done, value } = await reader.read().catch(lost);
+    if (done) return;
+    const lines = `${rest}${value}`.split('\n');
+    rest = lines.pop();
+    yield* lines.map(jsonOrNull);
   }
-  return whole;
+}
+
+// Removes these names of a folder with all below them, if that has this tag: in one request, as
+// long as the door goes on. 'onGone' is called for each object that is gone.
+export async function removeNames(folder, names, tag, onGone, signal) {
+  let last = { left: 1, tag };
+  while (last.left > 0) {
+    const given = { body: JSON.stringify(names), headers: { 'If-Match': last.tag }, signal };
+    const sent = await untilDoorAnswers(() => send('POST', 'remove', folder, '', given));
+    last = null;
+    for await (const line of linesOf(sent)) {
+      if (line?.path === undefined) last = line;
+      else onGone();
+    }
+    if (last === null) sent.lost();
+    if (last.status) fromDoor(new Refusal(last.status, last, sent.asked));
+  }
 }
 
 // A folder with all in it as one ZIP, or with these names alone. It isn't asked for again by
@@ -131,38 +160,39 @@ export async function zipped(folder, names, signal) {
 
 // A document or a list with the tag that says which bytes it has: {blob, tag}.
 export const readTagged = (word, path, signal = undefined) =>
-  insisting(() => ask('GET', word, path, 'blob', '', { signal }))
+  untilDoorAnswers(() => ask('GET', word, path, 'blob', '', { signal }))
     .then(({ told, tag }) => ({ blob: told, tag }));
 
 // A page of a PDF as a picture, {blob, tag, pages}, with how many pages there are; null where no
 // pictures are made. If the document isn't the one with 'tag' any more, it is refused with 412.
-export const pictureOf = (path, number, tag = null) => insisting(() => ask('GET', 'pages', path,
-  'blob', `?${number}`, { headers: tag === null ? {} : { 'If-Match': tag } }))
+export const pictureOf = (path, number, tag = null) => untilDoorAnswers(() => ask('GET', 'pages',
+  path, 'blob', `?${number}`, { headers: tag === null ? {} : { 'If-Match': tag } }))
   .then(({ told, ...more }) => told && { blob: told, ...more });
 
 // Those whom its list lets change a document or a list, by name: users, groups as g:NAME, special
 // ones; null where the caller may not know it, and undefined if the door can't tell. It tells that
 // of what isn't the one that was seen, and nothing has an empty tag.
 export const changersOf = (word, path) =>
-  insisting(() => ask('GET', word, path, 'text', '', { headers: { 'If-Match': '""' } }))
+  untilDoorAnswers(() => ask('GET', word, path, 'text', '', { headers: { 'If-Match': '""' } }))
     .then(() => undefined, (fault) => (fault.status === 403 ? null : fault.body?.who));
 
 // The tag of a document alone.
-export const tagAt = (path) => insisting(() => ask('HEAD', 'doc', path, 'text'))
+export const tagAt = (path) => untilDoorAnswers(() => ask('HEAD', 'doc', path, 'text'))
   .then(({ tag }) => tag);
 
 // Sent only if 'fields', a condition, hold; otherwise it is refused with 412. What can't take so
 // many bytes is refused before they are sent. Returns {made, tag}.
 export async function putDocument(path, bytes, fields, onProgress = () => {}, signal = null) {
   if (bytes.size > DOCUMENT_OF_ROOM) {
-    await insisting(() => ask('POST', 'places', path, 'text', `?${bytes.size}`,
+    await untilDoorAnswers(() => ask('POST', 'places', path, 'text', `?${bytes.size}`,
       { headers: fields }));
   }
-  return insisting(() => putOnce('door/doc', path, bytes, fields, onProgress, signal));
+  return untilDoorAnswers(() => putOnce('door/doc', path, bytes, fields, onProgress, signal));
 }
 
 // Takes away what an upload left that was broken off.
-export const removeLeft = (path) => insisting(() => ask('DELETE', 'left', path, 'text'));
+export const removeLeft = (path) =>
+  untilDoorAnswers(() => ask('DELETE', 'left', path, 'text'));
 
 export const putList = (which, path, text, fields) =>
-  insisting(() => ask('PUT', which, path, 'text', '', { body: text, headers: fields }));
+  untilDoorAnswers(() => ask('PUT', which, path, 'text', '', { body: text, headers: fields }));

@@ -47,15 +47,17 @@ export function newPanel(label, title, ...buttons) {
 
 // So many have ended before anybody could stop them.
 const FEW = 20;
-const NO_PANEL = { show: () => {}, remove: () => {}, isStopped: () => false };
+const NO_PANEL = { show: () => {}, remove: () => {}, isStopped: () => false,
+  signal: new AbortController().signal };
 
-// A panel for work on so many objects, which can be stopped: {show, remove, isStopped}.
+// A panel for work on so many objects, which can be stopped: {show, remove, isStopped, signal}.
 export function stoppable(title, count) {
   if (count <= FEW) return NO_PANEL;
-  let stopped = false;
+  const stopping = new AbortController();
   const stop = button(texts.acts.stop, () => {
-    stopped = true;
+    stopping.abort();
     stop.disabled = true;
   }, { class: 'small' });
-  return { ...newPanel(title, title, stop), isStopped: () => stopped };
+  const { signal } = stopping;
+  return { ...newPanel(title, title, stop), isStopped: () => signal.aborted, signal };
 }

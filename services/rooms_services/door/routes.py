@@ -17,16 +17,17 @@ from .folders.matched import Wanted, condition_of, read, tag_alone
 from .folders.pages import page
 from .folders.would import Would, would
 from .large import replacing, together
+from .large.removal import remove
 from .search.search import Texts, search
-from ..room.paths import Names, chosen_in, names_in, names_of_move
+from ..room.paths import Names, chosen_in, names_in, names_of_body, names_of_move
 from ..room.room import Room
 from ..room.space import Space
 
 PREFIX = "/door/"
 # What may take long, each with its kind.
 LONG_ROUTES = {"below": "walk", "closed": "walk", "find": "walk", "folder": "walk", "goes": "walk",
-               "latest": "walk", "pages": "picture", "search": "search", "would": "walk",
-               "zip": "zip"}
+               "latest": "walk", "pages": "picture", "remove": "walk", "search": "search",
+               "would": "walk", "zip": "zip"}
 # Behind what a query may stand.
 _ASKING = ("below", "find", "goes", "pages", "places", "search", "zip")
 # Behind what no path stands.
@@ -101,6 +102,10 @@ def _goes(asked: Asked) -> Answer:
     return goes(asked.room, asked.user, asked.names, chosen_in(asked.query))
 
 
+def _goes_of_many(asked: Asked) -> Answer:
+    return goes(asked.room, asked.user, asked.names, names_of_body(asked.body))
+
+
 def _pages(asked: Asked) -> Answer:
     return page(asked.room, asked.would, asked.user, asked.names, asked.query,
                 asked.field("If-Match"), asked.pictures)
@@ -151,6 +156,11 @@ def _move(asked: Asked) -> Answer:
     return together.moved(asked.room, asked.user, asked.names, names_of_move(asked.body))
 
 
+def _remove_names(asked: Asked) -> Answer:
+    return remove(asked.room, asked.user, asked.names, names_of_body(asked.body),
+                  condition_of(*asked.conditions()))
+
+
 def _give(asked: Asked) -> Answer:
     return together.given(asked.room, asked.user, asked.names, asked.body)
 
@@ -162,9 +172,10 @@ def _would(asked: Asked) -> Answer:
 _MATCHED: dict[str, Route] = {"GET": _read, "HEAD": _tag, "PUT": _replace}
 ROUTES: dict[str, dict[str, Route]] = {
     "below": {"GET": _below}, "closed": {"GET": _closed}, "find": {"GET": _find},
-    "folder": {"GET": _folder}, "goes": {"GET": _goes}, "latest": {"GET": _latest},
-    "pages": {"GET": _pages}, "search": {"GET": _search}, "would": {"POST": _would},
-    "zip": {"GET": _zip},
+    "folder": {"GET": _folder}, "goes": {"GET": _goes, "POST": _goes_of_many},
+    "latest": {"GET": _latest},
+    "pages": {"GET": _pages}, "remove": {"POST": _remove_names}, "search": {"GET": _search},
+    "would": {"POST": _would}, "zip": {"GET": _zip},
     "doc": _MATCHED, "dacl": _MATCHED, "sacl": _MATCHED,
     "attr": {"PUT": _give}, "move": {"POST": _move}, "object": {"DELETE": _remove},
     "left": {"DELETE": _remove_left},

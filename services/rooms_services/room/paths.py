@@ -67,6 +67,18 @@ def chosen_in(query: str) -> frozenset[str]:
     return frozenset(name for name, in found)
 
 
+def names_of_body(body: bytes) -> frozenset[str]:
+    """A list of names in a folder."""
+    try:
+        told = json.loads(body)
+        found = [names_of_path("/" + name) for name in told] if isinstance(told, list) else []
+    except (ValueError, TypeError, RecursionError):
+        found = []
+    if not found or any(len(names) != 1 for names in found):
+        raise Stop(400, "bad-body", "a list of names in the folder")
+    return frozenset(name for name, in found)
+
+
 @lru_cache(maxsize=1000)
 def _escaped(text: str) -> str:
     return quote(text, safe="")

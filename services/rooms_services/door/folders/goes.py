@@ -1,8 +1,11 @@
 """What goes with an object that is removed: all below it, and whether the caller may remove it. The
 room removes only empty folders, so whoever removes a folder has to know before."""
+from collections.abc import Iterable
+
 from ...room.answers import Answer, told_as_it_comes
 from ...room.paths import Names
 from ...room.room import Reply, Room
+from ...room.tags import tag_of
 from .walk import Node, Step, Walk, refuse_long, top_of
 
 # What it asks of each object: the rights by which it goes, and whether what is in it may be listed.
@@ -23,9 +26,15 @@ def barrier(own: dict[str, object], above: dict[str, object]) -> str:
     return "" if ruled(above, "w", "allowed") else "w"
 
 
+def tag_of_all(nodes: Iterable[Node]) -> str:
+    """Another one if something comes to these objects, or goes."""
+    return tag_of("\n".join(sorted(f"{node.kind} {node.path}" for node in nodes)).encode())
+
+
 class Goes:
     def __init__(self, room: Room, user: str) -> None:
         self.walk = Walk(room, user)
+        self.at = ""
         # Each after the folder that it is in.
         self.found: list[Node] = []
         self.unlisted: list[Node] = []
@@ -35,10 +44,12 @@ class Goes:
         self.can = Step("can", RIGHTS, self._may)
         self.list = Step("folder", "", self._children)
 
-    def look(self, names: Names, chosen: frozenset[str]) -> Answer:
+    def gather(self, names: Names, chosen: frozenset[str]) -> Reply:
+        """Returns the listing of the folder. The room says itself why there is none."""
         top, listing, _ = top_of(self.walk, names, RIGHTS)
+        self.at = top.path
         if listing.status != 200:
-            return listing.answer()
+            return listing
         self.walk.ask(Step("can", RIGHTS, self._at_top), top)
         for child in self.walk.every_child(top, listing):
             if child.name.decode() not in chosen:
@@ -49,11 +60,17 @@ class Goes:
                 self.found.append(child)
                 self._bar(child, top.path)
         self.walk.all()
+        return listing
+
+    def look(self, names: Names, chosen: frozenset[str]) -> Answer:
+        listing = self.gather(names, chosen)
+        if listing.status != 200:
+            return listing.answer()
         refuse_long(self.found + self.unlisted)
         return told_as_it_comes({
-            "at": top.path, "barred": self.barred,
+            "at": self.at, "barred": self.barred,
             "objects": ({"kind": node.kind, "path": node.path} for node in self.found),
-            "unlisted": (node.path for node in self.unlisted)})
+            "tag": tag_of_all(self.found), "unlisted": (node.path for node in self.unlisted)})
 
     def _at_top(self, top: Node, reply: Reply) -> None:
         self.told[top] = reply.told
