@@ -93,20 +93,22 @@ class Figures:
         self.note(what, after, before)
 
     def dates(self, what):
-        """How much later than the rows they come: the least of some loads."""
+        """How much later than the rows of a folder they come: the least of some loads."""
+        self.browser.driver.execute_async_script("fetch('doc/wide/dated', { method: 'PUT',"
+                                                 " body: 'x' }).then(arguments[0])")
         least = 1e9
         for _ in range(5):
             self.browser.driver.get('about:blank')
             os.kill(self.line, signal.SIGUSR1)
             before = self.requests()
-            self.browser.driver.get(f'{self.base}/')
+            self.browser.driver.get(f'{self.base}/#/wide')
             dates = self.browser.until(lambda: self.browser.script('return window.datesAfter'),
                                        'dates')
             rows = self.browser.script('return window.rowsAfter')
             least = min(least, dates - rows)
         self.note(what, least, before)
-        # They are asked for by one round of the line, once the rows are there.
-        assert least < ROUND + 100, least
+        # They are asked for beside the names: no further round of the line.
+        assert least < ROUND, least
 
     def share(self, what, folder):
         self.browser.open(f'#/{folder}?access')
@@ -131,6 +133,9 @@ def main():
     fill(room, 'some', sizes[0])
     fill(room, 'many', sizes[1])
     fill(room, 'rest', sizes[2] - sizes[0] - sizes[1])
+    room.ask('POST', '/folder/wide')
+    for number in range(sizes[0]):
+        room.ask('PUT', f'/doc/wide/d{number}', 'x')
     room.ask('PUT', '/doc/rest/0/needle', 'x')
     room.send()
     figures, checks = Figures(folder, port, log, line), Checks()
@@ -142,7 +147,7 @@ def main():
                 'the page, the first time'))
             checks.step(f'{version}: later', lambda: figures.load('the page, later'))
             checks.step(f'{version}: dates', lambda: figures.dates(
-                'when documents changed, after their names'))
+                f'when {some} documents changed, after their names'))
             checks.step(f'{version}: a share', lambda: figures.share(
                 f'what comes of a share, {some} objects below', 'some'))
             checks.step(f'{version}: a large share', lambda: figures.share(

@@ -21,10 +21,6 @@ adds setup
 sets office DATES who
 start_front 'how long the page takes' tls || return
 start_door office --changes "$PWD/changes/office" --dates=who
-# One change that nginx notes, and the door tells of.
-reach=(-k --resolve "rooms.example:$secure:127.0.0.1")
-base=https://rooms.example:$secure
-ask 'a document with a date' 201 '' alice:a /doc/dated -X PUT --data-binary x
 [ -n "${ROOMS_FIGURES-}" ] && sizes=(1000 10000 30000) || sizes=(150 300 600)
 python3 -IB "$here/lib/delay.py" $((port + 7)) "$secure" 100 >line.out 2>line.err &
 line=$!

@@ -76,7 +76,7 @@ function controlAt(table, { name, act, index = 0 }) {
 // An upload that was begun in one view may end while another one of the same folder is shown.
 let shownView = null;
 // What the room told of changes last, so that the next folder has its columns at once.
-let told = { shows: null, people: null, searches: false };
+let lately = { shows: null, people: null, searches: false };
 
 function shownAgain() {
   return shownView?.isCurrent() ? shownView.refresh() : null;
@@ -104,7 +104,7 @@ class FolderView {
     this.path = path;
     this.box = box;
     this.isCurrent = isCurrent;
-    this.look = { ...newLook(), ...told };
+    this.look = { ...newLook(), ...lately };
     this.body = element('div', { class: 'sheet' });
     this.places = element('div', { class: 'more-places' });
     const send = (files, trees, folder) =>
@@ -171,6 +171,8 @@ class FolderView {
   // 'focus' is where the focus was, or the name of what gets it.
   async refresh(focus = placeIn(this.body)) {
     const may = api.can(this.path, ASKED).catch(() => null);
+    // It comes a bit later than the names, and isn't waited for.
+    const details = detailsIn(this.path);
     try {
       const [children] = await waitFor(Promise.all([api.list(this.path), knowNights()]));
       this.bar.offer(this.look.shows);
@@ -181,7 +183,7 @@ class FolderView {
       this.look.chosen = new Set([...this.look.chosen].filter((name) => names.has(name)));
       this.tools.shown.hidden = children.length === 0;
       this.draw(focus);
-      this.showKnown();
+      this.showKnown(details);
       arrived(this.path, 'folder');
       learnEditing(children);
       if (this.path === '/') this.showPlaces();
@@ -192,15 +194,15 @@ class FolderView {
     }
   }
 
-  // What can't be opened, and what is known beside the names, comes a bit later.
-  async showKnown() {
-    const [details, names] = await Promise.all([detailsIn(this.path), people()]);
+  // What can't be opened, and what is known beside the names.
+  async showKnown(details) {
+    const [told, names] = await Promise.all([details, people()]);
     if (!this.isCurrent()) return;
-    const { closed, known, shows = this.look.shows, searches = this.look.searches } = details;
+    const { closed, known, shows = this.look.shows, searches = this.look.searches } = told;
     const isOther = shows !== this.look.shows;
     if (isOther && this.look.by !== 'name') this.look.by = 'name';
-    told = { shows, people: names, searches };
-    Object.assign(this.look, told, { closed, known });
+    lately = { shows, people: names, searches };
+    Object.assign(this.look, lately, { closed, known });
     this.bar.offer(shows);
     this.tools.offer(searches);
     // Rows that are sorted by what is known only now have to be drawn anew.

@@ -10,7 +10,7 @@ from collections.abc import Iterator
 from ...room.answers import Answer, told_as_it_comes
 from ...room.large import hidden_in
 from ...room.paths import Names
-from ...room.room import Reply, Room
+from ...room.room import Reply, Room, about
 from ..folders.walk import MOST, Node, Step, Walk, top_of
 from .keeper import Keeper
 from .store import Known
@@ -69,6 +69,8 @@ class Sizes:
 
 class Listed:
     def __init__(self, room: Room, user: str, keeper: Keeper | None, searches: bool) -> None:
+        self.room = room
+        self.user = user
         self.walk = Walk(room, user)
         self.keeper = keeper
         self.searches = searches
@@ -82,6 +84,13 @@ class Listed:
         self.document = Step("can", DOCUMENT, self._may)
 
     def look(self, names: Names) -> Answer:
+        """Without a try to list what may not be listed: the page asks beside its own listing, and
+        that leaves a record."""
+        may = self.walk.note(self.room.ask(self.user, about("GET", "can", names, "r")))
+        if may.status != 200:
+            return may.answer()
+        if not may.rulings().get("r"):
+            return Answer(204)
         top, listing, _ = top_of(self.walk, names, "x")
         if listing.status != 200:
             return listing.answer()
