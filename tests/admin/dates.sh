@@ -94,9 +94,33 @@ told_last 'only a password goes' '"changed": "f"}'
 verb user remove eve --room "$PWD/conf"
 holds "whom nothing names any more: $(cat "$work/err")" [ "$status" = 1 ]
 told_last 'whose name is forgotten' '"forget": "eve"}'
+# What the door knows is in each backup, without the names of those who did it.
+python3 -B - "$repo/services" root/var/lib/rooms-changes/conf/dates.db <<'END'
+import os, sys
+sys.path[:0] = [sys.argv[1], os.path.join(sys.argv[1], "..", "admin")]
+from rooms_services.door.changes.store import By, Store
+known = Store(sys.argv[2], True)
+folder = known.folder(("h", "later"))
+known.put(folder, "moved", False, 5, By(1700000000123, "bob"))
+known.put(folder, "of another length", False, 7, By(1700000000124, "bob"))
+known.put(known.folder(("f",)), "plan", False, 4, By(4100000000000, "bob"))
+known.close()
+END
+[ "$(id -u)" != 0 ] || chown 65531:65531 root/var/lib/rooms-changes/conf/dates.db
+setting DATES who
+night
+holds "with what the door knows: $(cat "$work/err")" [ "$status" = 0 ]
+printf '%s\n' '["f/plan", 4100000000000, 4]' '["h/later/moved", 1700000000123, 5]' \
+  '["h/later/of another length", 1700000000124, 7]' 3 >wanted
+LC_ALL=C sort "backups/conf/$(newest)/dates" >got
+same 'a backup has it' got wanted
 unit stop
 verb restore --room "$PWD/conf" latest
 holds "a restore: $(cat "$work/err")" [ "$status" = 0 ]
+grep 1700000000 "$list" | sed 's/.*\("moved", 5, \).*", /\1/' >got
+echo '"moved", 5, 1700000000123]' >wanted
+same 'a restore tells the door what is so still' got wanted
+holds 'and nothing that came later' eval '! grep -q 4100000000000 "$list"'
 told_last 'is told with the moment of the backup' \
   "\"restored\": $(date -d "$(newest | sed 's/\(.*\)[.]\(..\)\(..\)\(..\)/\1 \2:\3:\4/')" +%s)000}"
 holds 'and what it has' [ "$(sed -n '$p' "$list")" = 6 ]

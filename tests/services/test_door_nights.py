@@ -13,7 +13,7 @@ from rooms_services.door.changes.keeper import Keeper
 from rooms_services.door.changes.store import Store
 
 NIGHT = int(NOW * 1000) + 1000
-Object = tuple[int, int, str, int | None, str | None]
+Object = tuple[int | str | None, ...]
 F: Object = (2, 0, "f", None, None)
 A: Object = (3, 2, "a", 3, "11")
 B: Object = (4, 2, "b", 3, "22")
@@ -103,6 +103,8 @@ class Nights(Dated):
                      f"{head}[2,0]\n1\n", f"{head}[{'9' * 5000}]\n1\n",
                      f"{head}[2,0,\"f\",null,null]\n[3,2,\"a\",\"x\",null]\n2\n",
                      f"{head}[2,0,[],null,null]\n1\n", f"{head}[2,9,\"a\",1,\"x\"]\n1\n",
+                     *(f"{head}[2,0,\"f\",null,null,{at}]\n1\n"
+                       for at in ("0", "1.5", "9" * 20, "\"1\"", "1,1")),
                      f"{head}[{'9' * 30},0,\"f\",1{'0' * 30},null]\n1\n",
                      f"{head}[" + "[" * 4000 + "\n"):
             self.write(text)
@@ -188,6 +190,23 @@ class Nights(Dated):
         self.assertEqual(rows["a"], self.A)
         self.assertEqual((rows["b"], rows["m"], rows["n"]), (before, before, {}))
         self.assertEqual(rows["e"], {"size": 0, "before": NIGHT // 1000})
+
+    def test_a_restore_that_knows_moments(self) -> None:
+        """Of what a backup had, and what changed since; but no names."""
+        self.add(line("bob", "PUT", "/doc/f/a", 204, 3),
+                 line("eve", "PUT", "/doc/f/b", 204, 3, at=NOW + 60))
+        self.rows()
+        then = NIGHT - 86_400_000
+        self.write(self.list_of((*F, then), (*A, then), (*B, then), (5, 2, "g", None, None),
+                                (6, 5, "c", 3, "33", NIGHT + 1), made=NIGHT + 100_000))
+        self.tell({"number": 1, "at": NIGHT + 90_000, "restored": NIGHT})
+        self.keeper.catch_up()
+        self.keeper.take_night()
+        rows = self.rows()
+        self.assertEqual((rows["a"], rows["b"]), (self.A, {"size": 3, "when": then // 1000}))
+        self.assertEqual(self.rows("")["f"], {"when": then // 1000})
+        # (no moment is later than the backup)
+        self.assertEqual(self.rows("f/g")["c"], {"size": 3, "before": NIGHT // 1000})
 
     def copied(self, *names: str, since: float = 1e12) -> list[int | None]:
         self.keeper.catch_up()

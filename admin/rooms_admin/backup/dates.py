@@ -8,7 +8,7 @@ import stat
 import sys
 import time
 
-from ..host import locks, safe
+from ..host import commands, locks, safe
 from ..room import program
 from . import backups
 from ..cli.report import Interrupted, Stop, say
@@ -20,7 +20,11 @@ CHANGES, TOLD = "/var/lib/rooms-changes", "/var/lib/rooms-told"
 FOLDER = ROOT + TOLD
 # What a door hasn't taken in a month it needn't: it begins with nothing.
 _MONTH = 31 * 86_400_000
-_LIST = os.path.join(os.path.dirname(os.path.realpath(__file__)), "objects_of_copy.py")
+_HERE = os.path.dirname(os.path.realpath(__file__))
+_LIST, _OF_DOOR = (os.path.join(_HERE, name) for name in ("objects_of_copy.py",
+                                                          "dates_of_door.py"))
+# In a backup; and how many bytes that has at most.
+KEPT, _MOST = "dates", 64 << 20
 
 
 def _reader(room: Room) -> int | None:
@@ -97,12 +101,43 @@ def tell_changed(room: Room, path: bytes) -> None:
     tell(room, "changed", path.decode("utf-8", "surrogateescape").strip("/"))
 
 
-def _write_list(room: Room, reader: int, copied: str, at: int, megabytes: int) -> None:
+def keep(room: Room, folder: str) -> str:
+    """Puts what the door knows into a backup. Who made a change isn't in it: so whose name is
+    forgotten doesn't come back. Returns what hindered that."""
+    reader = _reader(room)
+    file = f"{ROOT}{CHANGES}/{room.name}/dates.db"
+    if reader is None or not os.path.lexists(file):
+        return ""
+    ours = os.geteuid() == reader
+    status, said = commands.bounded([
+        *([] if ours else ["setpriv", f"--reuid={reader}", f"--regid={reader}", "--clear-groups"]),
+        sys.executable, "-IB", _OF_DOOR, file], _MOST, sys.stderr.fileno(), ())
+    try:
+        if status != 0:
+            return f"{folder} has no dates of documents: status {status}"
+        safe.put_file(os.path.join(folder, KEPT), said, 0o600)
+        return ""
+    except OSError as fault:
+        return f"{folder} has no dates of documents: {fault.strerror}"
+
+
+def _kept(backup: str) -> bytes:
+    """What a backup has of it, if that is root's own."""
+    try:
+        with safe.own_file(os.path.join(backup, KEPT)) as source:
+            return safe.read_at_most(source.fileno(), _MOST)
+    except OSError:
+        return b""
+
+
+def _write_list(room: Room, reader: int, copied: str, at: int, megabytes: int,
+                known: bytes = b"") -> None:
     _remove_fresh(room)
     with safe.opened(os.open(_fresh(room), os.O_RDWR | os.O_CREAT | os.O_EXCL | os.O_CLOEXEC,
                              0o600)) as into:
         status, _, said = program.helper_on_copy(
-            room, copied, [sys.executable, "-IB", _LIST], [str(at)], megabytes, into)
+            room, copied, [sys.executable, "-IB", _LIST], [str(at), *(["-"] if known else [])],
+            megabytes, into, known)
         if status != 0:
             raise OSError(f"status {status}: {said}")
         os.fchown(into, _to(reader), -1)
@@ -162,6 +197,7 @@ class Restored:
         found = backups.moments(os.path.basename(backup))
         is_of_night = os.path.exists(os.path.join(backup, backups.RUN))
         self.at = min(found) * 1000 if found and is_of_night else 0
+        self.known = _kept(backup) if self.at else b""
 
     def look(self, copied: str) -> None:
         """At a private copy, while the room is still the old one."""
@@ -170,7 +206,7 @@ class Restored:
             return
         try:
             _write_list(self.room, reader, copied, self.at or now(),
-                        program.enough(self.room, copied))
+                        program.enough(self.room, copied), self.known)
             self.has_list = True
         except OSError as fault:
             say(f"the dates of {self.room.name} come back in the next night: "

@@ -103,6 +103,7 @@ class Night:
         for name, (word, *rest) in texts.PRINTED.items():
             self.write_text(name, word, rest)
         self.failed(self.dates.look(self.copied, self.copied_at, self.memory))
+        self.failed(dates.keep(self.room, self.kept))
         self.write_machine()
         self.remove_old(before)
 

@@ -207,9 +207,9 @@ def on_copy(room: Room, copied: str, words: list[str | bytes], megabytes: int = 
 
 
 def helper_on_copy(room: Room, copied: str, helper: list[str | bytes], words: list[str | bytes],
-                   megabytes: int, into: int) -> tuple[int, bytes, str]:
+                   megabytes: int, into: int, stdin: bytes = b"") -> tuple[int, bytes, str]:
     """The same by another program."""
-    return _on_copy(room, copied, helper, words, megabytes, into, b"")
+    return _on_copy(room, copied, helper, words, megabytes, into, stdin)
 
 
 def _on_copy(room: Room, copied: str, before: list[str | bytes], words: list[str | bytes],

@@ -5,8 +5,9 @@ forgotten; what root has changed; that a backup was put in the room's place.
 A night's list begins with the moment, in milliseconds, at which all of it was so, or shortly
 before, and that at which it was made: after a restore it is that of the backup. Then comes a line
 for each object, a folder before what is in it, as [number, number of its folder, name, length or
-null, first bytes of the SHA-256 or null]; and in the end how many there were. The root's own folder
-has the number 0."""
+null, first bytes of the SHA-256 or null], after a restore with the moment of its last change, where
+the backup knows that; and in the end how many there were. The root's own folder has the number
+0."""
 import json
 import os
 from collections.abc import Iterator
@@ -24,6 +25,8 @@ NIGHT, WORDS, RESTORED = "night", "words", "restored"
 PART = 1000
 # Of a line, of all words, and of a document, in bytes.
 LONGEST, MOST_WORDS, MOST_BYTES = 4096, 4_194_304, 1 << 40
+# A moment before the year 3000, in milliseconds.
+MOST_MOMENT = 32_503_680_000_000
 
 
 class NoList(Exception):
@@ -31,13 +34,16 @@ class NoList(Exception):
 
 
 def _object(line: bytes) -> OfCopy:
-    number, up, name, size, total = json.loads(line)
+    number, up, name, size, total, *more = json.loads(line)
+    at = more[0] if more else None
+    if len(more) > 1 or not (at is None or isinstance(at, int) and 0 < at < MOST_MOMENT):
+        raise ValueError("no moment")
     if not isinstance(number, int) or not isinstance(up, int) or not isinstance(name, str) \
             or not name or len(name.encode()) > LONGEST_NAME \
             or not (size is None or isinstance(size, int) and 0 <= size < MOST_BYTES):
         raise ValueError("no object")
     return OfCopy(number, up, name, size is None, size, None if total is None else
-                  bytes.fromhex(total))
+                  bytes.fromhex(total), at)
 
 
 def _objects(file: IO[bytes]) -> Iterator[OfCopy]:
@@ -101,6 +107,7 @@ class Night:
         if there and there.folder != int(one.is_folder) and there.at <= self.at:
             store.drop(there.id)
             there = None
+        is_undated = there is None or bool(there.is_undated)
         if there is None:
             number = store.add_at_night(up, one, self.at)
         else:
@@ -112,6 +119,8 @@ class Night:
                 elif there.is_undated:
                     store.known_before(number, self.at)
                 store.set_at_night(number, one.size, one.sum)
+        if one.at is not None and one.at <= self.at and is_undated:
+            store.changed_at(number, one.at)
         if one.is_folder:
             self._folders[one.number] = number
 

@@ -66,6 +66,8 @@ class OfCopy(NamedTuple):
     is_folder: bool
     size: int | None
     sum: bytes | None
+    # When it changed, where a backup that was put back knows that.
+    at: int | None = None
 
 
 class AtNight(NamedTuple):
@@ -331,6 +333,10 @@ class Store:
 
     def known_before(self, one: int, night: int) -> None:
         self._db.execute("UPDATE node SET before = coalesce(before, ?) WHERE id = ?", (night, one))
+
+    def changed_at(self, one: int, at: int) -> None:
+        """As a backup that was put back knows it; who did it isn't known."""
+        self._db.execute("UPDATE node SET at = ?, before = NULL WHERE id = ?", (at, one))
 
     def drop_gone(self, night: int) -> None:
         """What the copy of that night didn't have, unless it changed or moved since, or came to its
