@@ -183,7 +183,15 @@ print(sqlite3.connect(sys.argv[1]).execute(
 END
 echo "('yes',)" >wanted
 same 'and has written that' got wanted
+
+# While no door is there nothing is told, and nginx goes on to note: then all is known.
+ask 'a folder beside no door' 201 '' alice:a /folder/away -X POST
+ask 'a document' 201 '' alice:a /doc/away/plan -X PUT --data-binary 123
+ask 'of which nothing is told' 502 - bob:b /door/folder/away
+ask 'nor of what is new' 502 - bob:b /door/latest/
 start_door office "${dated[@]}"
+rows='{"kind":"document","name":"plan","size":3,"when":T,"who":"alice"}'
+is_now 'and then when, by whom, how large' /away "$rows" bob:b
 
 # A full disk keeps nobody from being answered, and a line has its place.
 stop_door() {
