@@ -1,8 +1,13 @@
 """The play of what takes several steps, of forms, and of what the page says of itself."""
 
+import os
+import sys
 import time
 
 from selenium.webdriver.common.keys import Keys
+
+sys.path.insert(0, os.path.join(os.path.dirname(os.path.realpath(__file__)), '..', 'services'))
+import papers  # noqa: E402
 
 ALL = 'rwanNxDtThHdcCoy'
 KEEP, OWN = 'D:d:EVERYONE@:Dd', 'A:fi:OWNER@:d'
@@ -217,6 +222,35 @@ class Leaving:
         driver.close()
         driver.switch_to.window(before)
 
+    def of_office(self):
+        """Of what an office writes the text is shown, by the menu and by a link; of what is damaged
+        it is said that there is none."""
+        alice = self.alice
+        lines = ['Dear Sirs, <b>&amp;', 'Größe']
+        for name, data in (('letter.docx', papers.docx(lines)), ('letter.odt', papers.odt(lines)),
+                           ('prices.xlsx', papers.xlsx(lines)), ('talk.pptx', papers.pptx(lines)),
+                           ('broken.docx', papers.docx(lines)[:200]), ('bomb.docx', papers.zipped(
+                               [('word/document.xml', b'<a>' + b' ' * 20_000_000 + b'</a>')]))):
+            self.ask('PUT', f'/doc/tree/{name}', data)
+        alice.open('#/tree')
+        for name, wanted in (('letter.docx', '\n'.join(lines)), ('letter.odt', '\n'.join(lines)),
+                             ('prices.xlsx', f'{lines[0]}\t7000\n{lines[1]}\t7001'),
+                             ('talk.pptx', '\n\n'.join(lines))):
+            alice.act('Preview', name)
+            alice.until(lambda: alice.script(
+                "return document.querySelector('dialog pre')?.textContent") == wanted, name)
+            alice.says('Only its text is shown', css='dialog .content')
+            alice.press('Close', 'dialog')
+        for name in ('broken.docx', 'bomb.docx'):
+            alice.act('Preview', name)
+            alice.says('no preview', css='dialog .content')
+            alice.press('Close', 'dialog')
+        alice.open('#/tree/letter.docx?show')
+        alice.says('Dear Sirs', css='.shown-document pre')
+        for name in ('letter.docx', 'letter.odt', 'prices.xlsx', 'talk.pptx', 'broken.docx',
+                     'bomb.docx'):
+            self.ask('DELETE', f'/object/tree/{name}')
+
     def long_folder(self):
         """The end of a long folder is a few jumps away."""
         alice = self.alice
@@ -253,4 +287,5 @@ class Leaving:
             ('one question', one_question), ('who leaves', leaves), ('a rename', renames),
             ('by this list', by_this_list), ('all places', all_places),
             ('levels of a document', words_of_levels), ('ready-made lists', ready_made),
-            ('a PDF by its link', pdf), ('a long folder', long_folder), ('help', help)]
+            ('a PDF by its link', pdf),
+            ('what an office writes', of_office), ('a long folder', long_folder), ('help', help)]

@@ -1,9 +1,11 @@
-// A document looked at without a download: text, which is set as text, images, and PDF.
+// A document looked at without a download: text, which is set as text, images, PDF, and the text
+// of what an office writes.
 
 import * as api from '../net/api.js';
 import { texts } from '../language/language.js';
 import { button, element, nameText } from '../ui/dom.js';
 import { downloadOne, save } from './download.js';
+import { isOfOffice, textOfOffice } from './office_text.js';
 import { pagesOf } from './pages.js';
 import { readTagged } from '../net/door.js';
 import { noteTag } from '../net/given_out.js';
@@ -62,16 +64,27 @@ const pdfOf = (bytes, name) => element('div', { class: 'empty' },
   element('p', {}, texts.folder.pdf),
   button(texts.folder.openInTab, () => showInTab(bytes, name), { class: 'primary in-tab' }));
 
-function contentOf(bytes, name) {
-  const ending = endingOf(name);
-  if (Object.hasOwn(IMAGES, ending)) return imageOf(bytes, IMAGES[ending], name);
-  if (isPdf(name)) return pdfOf(bytes, name);
-  const text = textOf(bytes);
+function textShown(text, name, isWhole) {
   if (text === null) return none();
   if (text === '') return element('p', { class: 'empty' }, texts.folder.emptyDocument);
   const shown = element('pre', { tabindex: '0', dir: 'auto', 'aria-label': name }, text);
-  return bytes.byteLength <= MOST_TEXT ? shown
+  return isWhole ? shown
     : element('div', {}, shown, element('p', { class: 'hint' }, texts.folder.beginning));
+}
+
+async function officeShown(bytes, name) {
+  const text = await textOfOffice(bytes, name);
+  return text === null ? none() : element('div', {},
+    element('p', { class: 'hint' }, texts.folder.textAlone),
+    textShown(text.slice(0, MOST_TEXT), name, text.length <= MOST_TEXT));
+}
+
+async function contentOf(bytes, name) {
+  const ending = endingOf(name);
+  if (Object.hasOwn(IMAGES, ending)) return imageOf(bytes, IMAGES[ending], name);
+  if (isPdf(name)) return pdfOf(bytes, name);
+  return isOfOffice(name) ? officeShown(bytes, name)
+    : textShown(textOf(bytes), name, bytes.byteLength <= MOST_TEXT);
 }
 
 const read = (path) => waitFor(readTagged('doc', path));
@@ -99,7 +112,7 @@ const closing = (finish) =>
 
 async function showBytes(path, { blob, tag }) {
   const name = api.nameOf(path);
-  const bytes = await blob.arrayBuffer();
+  const content = await contentOf(await blob.arrayBuffer(), name);
   const download = () => {
     save(blob, name);
     noteTag(path, tag);
@@ -107,7 +120,7 @@ async function showBytes(path, { blob, tag }) {
   await showDialog(nameText(name), (finish) => {
     const close = closing(finish);
     close.setAttribute('autofocus', '');
-    return [element('div', { class: 'content' }, contentOf(bytes, name)),
+    return [element('div', { class: 'content' }, content),
       element('div', { class: 'actions' }, button(texts.acts.download, download), close)];
   }, 'preview');
 }
@@ -131,7 +144,7 @@ export async function showDocument(path, box, isCurrent) {
   const name = api.nameOf(path);
   const pages = isPdf(name) ? await pagesOf(path) : null;
   const shown = pages?.shown
-    ?? contentOf(await (await waitFor(api.read(path))).arrayBuffer(), name);
+    ?? await contentOf(await (await waitFor(api.read(path))).arrayBuffer(), name);
   if (!isCurrent()) return;
   box.replaceChildren(element('div', { class: 'shown-document' }, pages?.larger, shown));
   pages?.watch(null);

@@ -104,6 +104,7 @@ export const DE_FOLDER = {
   noPreview: 'Für dieses Dokument gibt es keine Vorschau. Laden Sie es herunter, um es anzusehen.',
   pdf: 'Der Browser zeigt PDF-Dokumente in einem eigenen Tab.',
   openInTab: 'In einem Tab öffnen',
+  textAlone: 'Gezeigt wird nur der Text, nicht wie es aussieht.',
   emptyDocument: 'Das Dokument ist leer.',
   beginning: 'Das ist der Anfang. Laden Sie es herunter, um alles zu sehen.',
   cantOpen: 'Das können Sie nicht öffnen',

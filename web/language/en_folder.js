@@ -102,6 +102,7 @@ export const EN_FOLDER = {
   noPreview: 'There is no preview of this document. Download it to look at it.',
   pdf: 'The browser shows PDF documents in a tab of their own.',
   openInTab: 'Open in a tab',
+  textAlone: 'Only its text is shown, not how it looks.',
   emptyDocument: 'The document is empty.',
   beginning: 'This is its beginning. Download it to see all of it.',
   cantOpen: 'You can’t open this',

@@ -106,6 +106,7 @@ export const FR_FOLDER = {
   noPreview: 'Il n’y a pas d’aperçu de ce document. Téléchargez-le pour le regarder.',
   pdf: 'Le navigateur affiche les documents PDF dans leur propre onglet.',
   openInTab: 'Ouvrir dans un onglet',
+  textAlone: 'Seul le texte est montré, pas la mise en page.',
   emptyDocument: 'Le document est vide.',
   beginning: 'Ceci est le début. Téléchargez-le pour tout voir.',
   cantOpen: 'Vous ne pouvez pas ouvrir ceci',
