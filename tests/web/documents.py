@@ -1,5 +1,6 @@
 """The play of folders and documents, by the owner alice."""
 
+import os
 import urllib.request
 
 from selenium.webdriver.common.keys import Keys
