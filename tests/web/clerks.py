@@ -12,6 +12,7 @@ import urllib.request
 from browser import Browser, Checks
 from leaving import Leaving
 from managers import Managers
+from one_person import OnePerson
 from people import Names, day
 
 PASSWORDS = {'alice': 'a', 'carol': 'c', 'helena': 'h', 'zoe': 'z'}
@@ -19,7 +20,7 @@ NAMES = {'alice': 'Alice Moreau', 'bob': 'Bob Lindqvist', 'carol': 'Carol Weber'
          'helena': 'Helena Brandt', 'zoe': 'Zoe Adams'}
 
 
-class Clerks(Managers, Leaving):
+class Clerks(Managers, Leaving, OnePerson):
     def __init__(self, folder, front):
         self.folder = folder
         self.base = f'http://127.0.0.1:{front}'
@@ -91,7 +92,7 @@ class Clerks(Managers, Leaving):
                 ?? one.querySelector('.level').textContent])"""))
 
 
-PLAY = [*Managers.PLAY, *Leaving.PLAY]
+PLAY = [*Managers.PLAY, *OnePerson.PLAY, *Leaving.PLAY]
 
 
 def main():

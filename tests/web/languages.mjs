@@ -66,7 +66,7 @@ const OTHERS = {
   'access.thenCan many': [...counts, null], 'access.nowCan many': [...counts, null],
   'access.nowCan members': [[], ...names], 'outcome.keepsMore places': counts,
   'outcome.changesMore places': counts, 'outcome.apart places': counts,
-  'access.goes from': ['Fex'], 'access.goes to': ['Tox'], 'lists.and words': names,
+  'person.theirsThere words': ['Wox'], 'access.goes from': ['Fex'], 'access.goes to': ['Tox'], 'lists.and words': names,
   'warnings.noPassage place': ['Pqx', null],
   'warnings.noPassageForAll place': ['Pqx', null], 'warnings.passageUnread place': ['Pqx', null],
   'warnings.passageDepends place': ['Pqx', null], 'advanced.byLine place': ['Pqx', null],
@@ -84,7 +84,7 @@ function samplesOf(path, parameter) {
 
 const combined = (lists) => lists.reduce(
   (all, list) => all.flatMap((before) => list.map((one) => [...before, one])), [[]]);
-const NAMES = /Xaq|Yoz|Wuk|\b[A-Z][a-z]{1,2}qx\b|Dyx|Fex|Tox/g;
+const NAMES = /Xaq|Yoz|Wuk|\b[A-Z][a-z]{1,2}qx\b|Dyx|Fex|Tox|Wox/g;
 const textOf = (value) => (Array.isArray(value) ? value.join('') : String(value));
 const namesIn = (text) => [...new Set(text.match(NAMES) ?? [])].sort().join(' ');
 

@@ -8,6 +8,7 @@ import { DE_HELP } from './de_help.js';
 import { DE_ADVANCED, DE_RIGHTS, DE_WARNINGS } from './de_lists.js';
 import { DE_MOMENTS } from './de_moments.js';
 import { DE_PAGES } from './de_pages.js';
+import { DE_PERSON } from './de_person.js';
 import { DE_READY } from './de_ready.js';
 import { EVERYONE, OTHERS, SIGNED_IN, verb } from './de_people.js';
 import { DE_SEARCH } from './de_search.js';
@@ -212,4 +213,5 @@ export const DE = {
   faults: DE_FAULTS, warnings: DE_WARNINGS, access: DE_ACCESS, outcome: DE_OUTCOME,
   advanced: DE_ADVANCED, ready: DE_READY, earlier: DE_EARLIER, pages: DE_PAGES, search: DE_SEARCH,
   would: DE_WOULD,
+  person: DE_PERSON,
 };

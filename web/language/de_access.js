@@ -173,6 +173,7 @@ export const DE_ACCESS = {
     verb(names, 'darf', 'dürfen')} auch ${and(names)} ${
     THIS_AS_OBJECT[kind]} entfernen oder wegverschieben.`,
   onlyTheseThere: 'nur diese Personen',
+  onlyTheseAre: (names) => `nur diese Personen: ${names.join('; ')}`,
   linesThere: 'eigene Zeilen',
   unseen: (names) => `Sie dürfen nicht sehen, wer Zugriff auf ${and(names)} hat.`,
   documentsIn: (many, place) => `${count(many, 'Dokument', 'Dokumente')} in ${place}`,

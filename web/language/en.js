@@ -8,6 +8,7 @@ import { EN_HELP } from './en_help.js';
 import { EN_ADVANCED, EN_RIGHTS, EN_WARNINGS } from './en_lists.js';
 import { EN_MOMENTS } from './en_moments.js';
 import { EN_PAGES } from './en_pages.js';
+import { EN_PERSON } from './en_person.js';
 import { EN_READY } from './en_ready.js';
 import { EN_SEARCH } from './en_search.js';
 import { formsOf } from './forms.js';
@@ -201,4 +202,5 @@ export const EN = {
   faults: EN_FAULTS, warnings: EN_WARNINGS, access: EN_ACCESS, outcome: EN_OUTCOME,
   advanced: EN_ADVANCED, ready: EN_READY, earlier: EN_EARLIER, pages: EN_PAGES, search: EN_SEARCH,
   would: EN_WOULD,
+  person: EN_PERSON,
 };

@@ -155,6 +155,7 @@ export const EN_ACCESS = {
   removers: (place, names, kind) => `By the list of ${place}, or because it is theirs, ${
     and(names)} may also remove this ${kind} or move it away.`,
   onlyTheseThere: 'only these people',
+  onlyTheseAre: (names) => `only these people: ${names.join('; ')}`,
   linesThere: 'lines of its own',
   unseen: (names) => `You may not see who has access to ${and(names)}.`,
   documentsIn: (many, place) => `${count(many, 'document', 'documents')} in ${place}`,

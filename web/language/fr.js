@@ -10,6 +10,7 @@ import { FR_HELP } from './fr_help.js';
 import { FR_ADVANCED, FR_RIGHTS, FR_WARNINGS } from './fr_lists.js';
 import { FR_MOMENTS } from './fr_moments.js';
 import { FR_PAGES } from './fr_pages.js';
+import { FR_PERSON } from './fr_person.js';
 import { FR_READY } from './fr_ready.js';
 import { FR_WOULD } from './fr_would.js';
 
@@ -207,4 +208,5 @@ export const FR = {
   faults: FR_FAULTS, warnings: FR_WARNINGS, access: FR_ACCESS, outcome: FR_OUTCOME,
   advanced: FR_ADVANCED, ready: FR_READY, earlier: FR_EARLIER, pages: FR_PAGES, search: FR_SEARCH,
   would: FR_WOULD,
+  person: FR_PERSON,
 };

@@ -169,6 +169,7 @@ export const FR_ACCESS = {
     and(names)} ${names.length === 1 ? 'peut' : 'peuvent'} aussi supprimer ${
     THIS_AS_OBJECT[kind]} ou le déplacer ailleurs.`,
   onlyTheseThere: 'seulement ces personnes',
+  onlyTheseAre: (names) => `seulement ces personnes : ${names.join('; ')}`,
   linesThere: 'ses propres lignes',
   unseen: (names) => `Vous ne pouvez pas voir qui a accès à ${and(names)}.`,
   documentsIn: (many, place) => `${count(many, 'document', 'documents')} dans ${place}`,

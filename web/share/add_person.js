@@ -241,7 +241,7 @@ export function adder(state, again, pick) {
     picked.add(choice);
   };
   const field = picker(state.known, taken, take,
-    { words: levelWords(QUICK, state.kind), gives: { level: QUICK } });
+    { quick: { words: levelWords(QUICK, state.kind), gives: { level: QUICK } } });
   for (const choice of pick?.choices ?? []) take(choice, pick);
   return element('div', { class: 'adding' }, field, box);
 }

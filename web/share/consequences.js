@@ -34,7 +34,7 @@ function besideOf(said, opening, nodes) {
   const folders = open.map(({ path }) => ({ path, kind: 'folder', text: '' }));
   const inside = open.map(({ path }) => (
     { path: imagined(path).other, kind: 'document', text: '' }));
-  return each(changesBelow(said, [...folders, ...inside, ...nodes], []), (changes, { path }) =>
+  return withChanges(changesBelow(said, [...folders, ...inside, ...nodes], []), (changes, { path }) =>
     changes.filter(({ to }) => to !== 'pass' || !open.some((one) => one.path === path)));
 }
 
@@ -68,9 +68,9 @@ function linesIn(list, after, kind) {
 }
 
 // What is sure, and what isn't since it isn't known who is in which groups.
-const surely = (changes) => changes.filter(({ isPerhaps, owns }) => !isPerhaps || owns);
-const perhapsIn = (changes) => changes.filter(({ isPerhaps, owns }) => isPerhaps && !owns);
-const each = (places, of) => places.map((one) => ({ ...one, changes: of(one.changes, one) }))
+export const surely = (changes) => changes.filter(({ isPerhaps, owns }) => !isPerhaps || owns);
+export const perhapsIn = (changes) => changes.filter(({ isPerhaps, owns }) => isPerhaps && !owns);
+export const withChanges = (places, of) => places.map((one) => ({ ...one, changes: of(one.changes, one) }))
   .filter((one) => one.changes.length > 0);
 
 // {after, gaining, opening}: what can be said of a list before anything further down is seen.
@@ -121,8 +121,8 @@ export async function outcomeOf(state, next, subject, near) {
     ...ownersOf(said, { inside, beside }, top, changes),
     apart: inside.filter((one) => isException(one) && one.list.protect),
     gains: changes.filter(({ more }) => more), losses: changes.filter(({ more }) => !more),
-    below: each(below, surely), isKnown: after.known,
-    perhaps: { changes: perhapsIn(all), below: each(below, perhapsIn) },
+    below: withChanges(below, surely), isKnown: after.known,
+    perhaps: { changes: perhapsIn(all), below: withChanges(below, perhapsIn) },
     keptFrom: await keptFrom(state, places, subject),
     left: isLeaving ? await leftovers(state, next, subject) : [],
     back: isLeaving ? await furtherLines(state, next, ofSubject, subject) : [],

@@ -22,9 +22,11 @@ const lineShown = ({ look, head, words, names, rest = [] }) => element('li', { c
   icon(MARKS[look]), element('div', {},
     element('p', {}, element('b', {}, head), ` ${words}`), allOf(names), restOf(rest)));
 
+export const linesShown = (lines) => element('ul',
+  { class: 'changes', 'aria-label': texts.outcome.changes }, lines.map(lineShown));
+
 const perhapsShown = (lines) => (lines.length === 0 ? null : element('details', {},
-  element('summary', {}, texts.would.perhaps),
-  element('ul', { class: 'changes' }, lines.map(lineShown))));
+  element('summary', {}, texts.would.perhaps), linesShown(lines)));
 
 // What somebody ticked or not is kept in 'ticks', since it may be drawn anew.
 function tick({ words, isOn, key }, ticks) {
@@ -51,8 +53,7 @@ export function tellOutcome(state, outcome, subject = null, ticks = new Map()) {
   const taken = (isFirst) => offers.filter((one) => one.isFirst === isFirst
     && (ticks.get(one.key) ?? one.isOn)).flatMap(({ steps }) => steps);
   const shown = element('div', { class: 'outcome' },
-    element('ul', { class: 'changes', 'aria-label': texts.outcome.changes },
-      saidLines(state, outcome, subject).map(lineShown)),
+    linesShown(saidLines(state, outcome, subject)),
     perhapsShown(perhapsLines(state, outcome)),
     hintsOf(state, outcome).map((words) => element('p', { class: 'hint' }, words)),
     offers.map((one) => tick(one, ticks)), warnings(state, outcome, subject));

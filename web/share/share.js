@@ -9,7 +9,8 @@ import { button, element, icon } from '../ui/dom.js';
 import { hasUnsentAt } from '../acl/draft.js';
 import { endWords } from '../acl/end_dates.js';
 import { confirm } from './confirm.js';
-import { isException, passedDown } from '../acl/inherit.js';
+import { exceptions } from './exceptions.js';
+import { passedDown } from '../acl/inherit.js';
 import { closedUp, joined, readLevels } from '../acl/levels.js';
 import { texts } from '../language/language.js';
 import { linkTo } from '../ui/links.js';
@@ -17,12 +18,10 @@ import { Looking } from '../net/crawl.js';
 import { readListText } from '../acl/entries.js';
 import { askedFor } from '../ui/ask_whom.js';
 import { notShown, tellFault, waitFor } from '../ui/messages.js';
-import { belowOf } from './consequences.js';
 import { people } from '../net/directory.js';
-import { lookingLine } from '../ui/progress.js';
 import { placeName, shownName } from './access_words.js';
+import { onePerson } from './one_person.js';
 import { onlyThese } from './only_these.js';
-import { unreadNames } from '../text/unread.js';
 import { shortened } from '../text/who_is.js';
 import { isolated, sentenceOf } from '../text/words.js';
 import { noAnswerWords } from '../text/would_words.js';
@@ -131,46 +130,6 @@ function removersNote(state) {
   return made;
 }
 
-const placeLink = ({ path, list }) => element('li', {},
-  element('a', { href: linkTo(path, 'access') }, isolated(path)),
-  element('span', { class: 'hint' },
-    list.protect ? texts.access.onlyTheseThere : texts.access.linesThere));
-
-// What is said of what was seen further down: its exceptions, and what can't be seen.
-function exceptionsSeen(state) {
-  const { nodes, unread, all } = belowOf(state);
-  const found = nodes.filter(isException);
-  const follows = found.length + unread.length > 0 ? texts.access.restFollows
-    : texts.access.allFollows;
-  const hints = [
-    unread.length > 0 ? texts.access.unseen(unreadNames(unread, 3)) : null,
-    all ? follows : null,
-  ].filter(Boolean);
-  return element('div', {}, element('ul', {}, found.map(placeLink)),
-    ...hints.map((words) => element('p', { class: 'hint' }, words)));
-}
-
-// What further down doesn't only follow this list, looked for when somebody wants to know.
-function exceptions(state) {
-  const { kind, looking } = state;
-  if (kind !== 'folder') return null;
-  const seen = element('div', {});
-  const draw = (isBusy) => {
-    const next = exceptionsSeen(state);
-    if (next.textContent !== seen.textContent) seen.replaceChildren(next);
-    line.draw(isBusy);
-  };
-  const look = () => {
-    belowOf(state);
-    looking.follow(draw, () => made.open && made.isConnected).catch(tellFault);
-  };
-  const line = lookingLine(looking, look);
-  const made = element('details', {}, element('summary', {}, texts.access.exceptions),
-    element('div', { class: 'exceptions' }, seen, line.shown));
-  made.addEventListener('toggle', () => made.open && look());
-  return made;
-}
-
 // An access that the nightly run has taken back.
 const endedHint = ({ who, day }) => element('p', { class: 'hint' },
   texts.access.ended(isolated(who), endWords(day)));
@@ -189,7 +148,7 @@ function view(state, again, pick) {
     note(state), openNote(state, again), element('h2', {}, texts.page.whoHasAccess),
     accessRows(state, again), model.ended.map(endedHint), model.loose.map(looseHint),
     hintOf(model.own && kind === 'folder' ? texts.access.own : null),
-    removersNote(state), following(state, again), exceptions(state));
+    removersNote(state), following(state, again), exceptions(state), onePerson(state, again));
 }
 
 // In the place of a list that I may not read.

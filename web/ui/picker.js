@@ -22,7 +22,7 @@ const isSame = (one, other) => one.who === other.who && one.isGroup === other.is
 
 // What may be chosen for what was typed: [{who, isGroup, sure}]. Whose name begins so comes first.
 // 'isKnown' says that names can be looked up: then another one is taken only if none of them fits.
-function choicesFor(typed, all, isKnown, taken) {
+function choicesFor(typed, all, { isKnown, taken, isOfPeople }) {
   const small = typed.toLowerCase();
   const isFree = (choice) => !taken.some((one) => isSame(one, choice));
   const [begins, others] = [[], []];
@@ -35,7 +35,8 @@ function choicesFor(typed, all, isKnown, taken) {
   }
   const found = [...begins, ...others].slice(0, MOST);
   if (!isName(typed) || all.some(({ who }) => who === typed)) return found;
-  const asTyped = [false, true].map((isGroup) => ({ who: typed, isGroup, sure: false }));
+  const asTyped = (isOfPeople ? [false] : [false, true])
+    .map((isGroup) => ({ who: typed, isGroup, sure: false }));
   return isKnown && found.length > 0 ? found : [...found, ...asTyped.filter(isFree)];
 }
 
@@ -123,12 +124,14 @@ function choiceList(input, known, picks) {
 }
 
 // 'taken' are those who have access already, as they are at each key. 'onPick' is called with {who,
-// isGroup, sure}, and with what a quick pick gives beside these: {words, gives}.
-export function picker(known, taken, onPick, quick = null) {
-  const all = knownNames(known);
+// isGroup, sure}, and with what a 'quick' pick gives beside these: {words, gives}. 'isOfPeople' says
+// that no groups are offered.
+export function picker(known, taken, onPick,
+  { quick = null, label = texts.picker.add, isOfPeople = false } = {}) {
+  const all = knownNames(known).filter((one) => !isOfPeople || !one.isGroup);
   const input = element('input', {
-    type: 'text', role: 'combobox', 'aria-label': texts.picker.add, 'aria-expanded': 'false',
-    'aria-autocomplete': 'list', placeholder: texts.picker.add, autocomplete: 'off',
+    type: 'text', role: 'combobox', 'aria-label': label, 'aria-expanded': 'false',
+    'aria-autocomplete': 'list', placeholder: label, autocomplete: 'off',
     autocapitalize: 'none', spellcheck: 'false',
   });
   const pick = (choice) => {
@@ -141,7 +144,8 @@ export function picker(known, taken, onPick, quick = null) {
   const draw = (isAsked = false) => {
     const typed = input.value.trim();
     const isOpen = typed !== '' || (isAsked && known !== null);
-    const found = isOpen ? choicesFor(typed, all, known !== null, taken) : [];
+    const found = !isOpen ? []
+      : choicesFor(typed, all, { isKnown: known !== null, taken, isOfPeople });
     choices.show(found, toldOf(typed, found, known, taken));
   };
   const keys = {

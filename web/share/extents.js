@@ -1,0 +1,59 @@
+// What one caller can do at places, by what the program answered. Nothing here draws or asks.
+
+import { ANY_OTHER } from '../acl/callers.js';
+import { UNNAMED, imagined } from '../acl/question.js';
+import { texts } from '../language/language.js';
+import { parentOf } from '../net/api.js';
+import { isolated } from '../text/words.js';
+
+// The caller who has this name, with the groups that are known.
+export const callerOf = ({ callers, asked }, user) => callers.find((one) => one.user === user
+  && (asked.isExact || one.groups.length === 0)) ?? callers.find((one) =>
+  one.user === null && one.key === ANY_OTHER);
+
+// What somebody can do at an object, in words: also what they may remove beyond their level.
+function extentWords({ level, it, inside }, kind) {
+  const isWhole = ['remove', 'manage'].includes(level);
+  const removals = isWhole ? [] : [it && 'it', inside && 'inside'].filter(Boolean);
+  return removals.length > 0 && ['none', 'pass'].includes(level)
+    ? texts.outcome.keepsRemoving(removals) : texts.outcome.keeps(level, kind, removals);
+}
+
+const isBelow = (path, top) => path !== top && path.startsWith(top === '/' ? '/' : `${top}/`);
+
+// Where somebody can do something, from the top down: [{path, kind, level, words}], without places
+// at which it is the same as at the nearest one above. The first one always stands.
+export function extentsAt(said, places, caller, side) {
+  const told = [];
+  for (const { path, kind } of places) {
+    const extent = said.extentAt(path, kind, caller, side);
+    if (extent === null) continue;
+    const words = extentWords(extent, kind);
+    const above = [...told].reverse().find((one) => isBelow(path, one.path));
+    if (above === undefined || above.level !== extent.level
+      || (above.kind === kind && above.words !== words)) {
+      told.push({ path, kind, level: extent.level, words });
+    }
+  }
+  return told;
+}
+
+// What somebody owns that only follows its folder, where that gives them something else than what
+// others have there; whoever makes something there is told of with the folder: [{path, words}] with
+// the folder's path.
+export function ownedAt(said, nodes, caller, side) {
+  const at = (path) => said.at(path, caller, side);
+  const isLike = (one, path) => at(one)?.mask === at(path).mask
+    && at(one)?.removes === at(path).removes;
+  const isApart = ({ path }) => {
+    const folder = imagined(parentOf(path));
+    const makes = /[wa]/.test(at(parentOf(path))?.mask ?? '');
+    return at(path) !== null && !isLike(folder.other, path)
+      && !(makes && isLike(folder.own, path));
+  };
+  return nodes.filter((one) => one.path.includes(UNNAMED) && caller.user !== null
+    && one.object.owner === caller.user && isApart(one)).map(({ path, kind }) => (
+    { path: parentOf(path), words: extentWords(said.extentAt(path, kind, caller, side), kind) }));
+}
+
+export const wordsAt = ({ path, words }) => texts.outcome.at(words, isolated(path));
