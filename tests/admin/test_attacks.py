@@ -22,6 +22,7 @@ sys.path.insert(0, os.path.join(os.path.dirname(__file__), "..", "..", "admin"))
 from rooms_admin.host import tempdirs, waiting  # noqa: E402
 from rooms_admin.room import health, program, server, settings  # noqa: E402
 from rooms_admin.passwords import passwords  # noqa: E402
+from rooms_admin.backup import copying  # noqa: E402
 from rooms_admin.lists import dump, records  # noqa: E402
 from rooms_admin.people import handing_over, members  # noqa: E402
 from rooms_admin.directory import groups  # noqa: E402
@@ -235,7 +236,7 @@ class Apart(unittest.TestCase):
     def test_answers(self) -> None:
         asked = waiting.Apart(lambda one: [one, os.getpid()], 64 << 20)
         for one in ("a", [1, None], "\n"):
-            found, process = asked.ask(one, 5)
+            found, process = asked.ask(one, 60)
             self.assertEqual(found, one)
             self.assertNotEqual(process, os.getpid())
         asked.end()
@@ -243,19 +244,39 @@ class Apart(unittest.TestCase):
     def test_has_nothing_of_whoever_asks(self) -> None:
         with tempfile.TemporaryFile() as held:
             asked = waiting.Apart(lambda one: os.path.lexists(f"/proc/self/fd/{one}"), 64 << 20)
-            self.assertEqual([asked.ask(one, 5) for one in (1, held.fileno())], [True, False])
+            self.assertEqual([asked.ask(one, 60) for one in (1, held.fileno())], [True, False])
             asked.end()
 
     def test_ends(self) -> None:
         def eats(one: object) -> object:
             return len(bytearray(one)) if isinstance(one, int) else "x" * (60 << 20)
-        for work, asks, how in ((lambda _: time.sleep(99), 0, "no answer within 1 s"),
-                                (lambda _: os.kill(os.getpid(), signal.SIGSTOP), 0, "no answer"),
-                                (lambda _: os._exit(3), 0, "64 MB"), (eats, 1 << 30, "64 MB"),
-                                (eats, 100 << 20, "64 MB"), (eats, "", "64 MB")):
-            asked = waiting.Apart(work, 64 << 20)
-            with self.assertRaisesRegex(Stop, how):
-                asked.ask(asks, 1)
+        for hangs in (lambda _: time.sleep(99), lambda _: os.kill(os.getpid(), signal.SIGSTOP)):
+            with self.assertRaisesRegex(Stop, "no answer within 1 s"):
+                waiting.Apart(hangs, 64 << 20).ask("", 1)
+        with self.assertRaisesRegex(Stop, "64 MB"):
+            waiting.Apart(lambda _: os._exit(3), 64 << 20).ask("", 60)
+        for asks in (1 << 30, 100 << 20, ""):
+            with self.assertRaisesRegex(Stop, "64 MB"):
+                waiting.Apart(eats, 64 << 20).ask(asks, 60)
+
+
+class Copies(unittest.TestCase):
+    def test_no_lock_waits_for_the_disk_of_backups(self) -> None:
+        """Whoever copies a room has its lock, and asks nothing of that disk until it is copied."""
+        with tempfile.TemporaryDirectory() as folder, \
+                unittest.mock.patch.object(server, "settled", lambda _: "inactive"), \
+                unittest.mock.patch.object(server, "state", lambda _: "inactive"):
+            room, part = room_of(folder), f"{folder}/hangs"
+            data = os.urandom(100000)
+            with open(room.file, "wb") as made:
+                made.write(data)
+            copied = copying.copy(room, part)
+            self.assertEqual(copied.where, {"R": "near"})
+            os.mkdir(part)
+            copying.keep(room, copied, part)
+            self.assertEqual(os.listdir(part), ["R"])
+            with open(f"{part}/R", "rb") as found:
+                self.assertEqual(found.read(), data)
 
 
 class Says(unittest.TestCase):

@@ -1,7 +1,8 @@
 """How a room that is served is copied. This process holds the room by a connection to its server,
 and another one copies both files: so neither the room's own disk nor that of backups can hold the
 server for longer than it was given. They are copied to the room's own disk if that has space for
-it, under no name, and otherwise to the disk of backups at once."""
+it, under no name, and otherwise to the disk of backups at once. Until that is done this process
+asks nothing of the disk of backups, so one that hangs doesn't have it keep a lock."""
 import errno
 import mmap
 import os
@@ -10,9 +11,10 @@ import signal
 import struct
 import time
 from collections.abc import Callable
+from contextlib import suppress
 from dataclasses import dataclass, field
 
-from ..host import processes, safe
+from ..host import processes, safe, waiting
 from ..room import server, waits
 from ..cli.report import Interrupted, Refused, Stop, say
 from ..room.held import NotHeld, held
@@ -37,19 +39,18 @@ class TooSlow(TooLong):
 @dataclass
 class Copy:
     """For each of the room's files one without a name beside the room, or None where its disk has
-    no such files, and one in the folder of the copy. `where` says which of both has the copy."""
+    no such files. `where` says whether that one has the copy, or one in the folder of the copy."""
     near: dict[str, int | None] = field(default_factory=dict)
-    far: dict[str, int] = field(default_factory=dict)
     where: dict[str, str] = field(default_factory=dict)
 
     @property
     def numbers(self) -> list[int]:
-        return [one for one in [*self.near.values(), *self.far.values()] if one is not None]
+        return [one for one in self.near.values() if one is not None]
 
     def close(self) -> None:
         for number in self.numbers:
             os.close(number)
-        self.near, self.far = {}, {}
+        self.near = {}
 
 
 _OF_TARGET = (errno.ENOSPC, errno.EDQUOT, errno.EROFS, errno.EFBIG)
@@ -62,24 +63,22 @@ def _failed(room: Room, fault: OSError, part: str) -> str:
     return f"copy of {room.file} failed: {safe.reason(fault)}"
 
 
-def _open(room: Room, part: str) -> Copy:
-    """Before the server is held, since a disk may hang at any call."""
+def _open(room: Room) -> Copy:
+    """Before the server is held."""
     opened = Copy()
-    try:
-        with safe.opened(safe.folder(part)) as within:
-            for name in (room.base, room.base + "-wal"):
-                opened.far[name] = os.open(
-                    name, os.O_WRONLY | os.O_CREAT | os.O_TRUNC | os.O_NOFOLLOW | os.O_CLOEXEC,
-                    0o600, dir_fd=within)
-                try:
-                    opened.near[name] = os.open(
-                        room.folder, os.O_TMPFILE | os.O_RDWR | os.O_CLOEXEC, 0o600)
-                except OSError:
-                    opened.near[name] = None
-        return opened
-    except OSError as fault:
-        opened.close()
-        raise Stop(_failed(room, fault, part)) from fault
+    for name in (room.base, room.base + "-wal"):
+        try:
+            opened.near[name] = os.open(room.folder, os.O_TMPFILE | os.O_RDWR | os.O_CLOEXEC, 0o600)
+        except OSError:
+            opened.near[name] = None
+    return opened
+
+
+def _far(part: str, name: str) -> int:
+    """A file in the folder of the copy, for whoever may wait for its disk."""
+    with safe.opened(safe.folder(part)) as within:
+        return os.open(name, os.O_WRONLY | os.O_CREAT | os.O_TRUNC | os.O_NOFOLLOW | os.O_CLOEXEC,
+                       0o600, dir_fd=within)
 
 
 def _free(number: int) -> int:
@@ -174,7 +173,7 @@ class _Copier:
         """Where each file is, or what failed."""
         said = []
         with safe.opened(safe.folder(self._room.folder)) as within:
-            for name, far in self._targets.far.items():
+            for name, near in self._targets.near.items():
                 try:
                     source = safe.file_below(within, name)
                 except FileNotFoundError:
@@ -182,10 +181,10 @@ class _Copier:
                         return f"no room: {self._room.file} isn't there"
                     continue
                 with safe.opened(source):
-                    said.append(f"{self._file(source, self._targets.near[name], far)} {name}")
+                    said.append(f"{self._file(source, near, name)} {name}")
         return "\n".join(["copied", *said])
 
-    def _file(self, source: int, near: int | None, far: int) -> str:
+    def _file(self, source: int, near: int | None, name: str) -> str:
         """A clone takes no time and no space. Beside the room there has to be space for a copy, and
         for what others write meanwhile."""
         if near is not None and safe.clone(source, near):
@@ -202,8 +201,9 @@ class _Copier:
                 os.ftruncate(near, 0)
         self._done[:] = struct.pack("=Q", before)
         os.lseek(source, 0, os.SEEK_SET)
-        while count := os.sendfile(far, source, None, _CHUNK):
-            self._add(count)
+        with safe.opened(_far(self._part, name)) as far:
+            while count := os.sendfile(far, source, None, _CHUNK):
+                self._add(count)
         return "far"
 
     def _add(self, count: int) -> None:
@@ -245,7 +245,7 @@ def copy(room: Room, part: str) -> Copy:
     """Copies the room into the folder `part` while its server is held, or while none runs. NotHeld
     says why that can't be."""
     for _ in range(2):
-        targets = _open(room, part)
+        targets = _open(room)
         try:
             state = server.settled(room)
             if state not in ("active", "inactive"):
@@ -261,13 +261,23 @@ def copy(room: Room, part: str) -> Copy:
     raise NotHeld(f"{room.unit} is started or stopped again and again")
 
 
+def _free_at(part: str) -> int:
+    def asked() -> int:
+        with safe.opened(safe.folder(part)) as within:
+            return _free(within)
+    found = waiting.answer(waiting.PATIENCE, asked, part)
+    if not isinstance(found, int):
+        raise Stop(f"not read: {part}: the look failed")
+    return found
+
+
 def copy_stopped(room: Room, part: str, tell: Callable[[str], object]) -> Copy:
     """While the server is stopped, whatever it did before. Why it doesn't start again is told: that
     is no fault of the copy."""
-    targets = _open(room, part)
+    targets = _open(room)
     is_stopped, ended = False, None
     try:
-        size, free = server.size_of(room.file), _free(targets.far[room.base])
+        size, free = server.size_of(room.file), _free_at(part)
         if size > free:
             raise Stop(f"copy of {room.file} failed: it has {size >> 20} MB, and the disk of "
                        f"{part} has {free >> 20} MB free")
@@ -293,17 +303,22 @@ def copy_stopped(room: Room, part: str, tell: Callable[[str], object]) -> Copy:
 def keep(room: Room, copied: Copy, part: str) -> None:
     """Once the server goes on: the copies get to the disk of backups."""
     try:
-        with safe.opened(safe.folder(part)) as within:
-            for name, target in copied.far.items():
-                where = copied.where.get(name)
-                if where is None:
-                    os.unlink(name, dir_fd=within)
-                    continue
-                source = copied.near[name]
-                if where == "near" and source is not None:
+        for name, source in copied.near.items():
+            where = copied.where.get(name)
+            if where == "near" and source is not None:
+                with safe.opened(_far(part, name)) as target:
                     os.lseek(source, 0, os.SEEK_SET)
                     safe.copy_all(source, target)
-                os.fsync(target)
+                    os.fsync(target)
+        with safe.opened(safe.folder(part)) as within:
+            for name in copied.near:
+                if copied.where.get(name) == "far":
+                    with safe.opened(safe.file_below(within, name)) as target:
+                        os.fsync(target)
+                elif name not in copied.where:
+                    # Of a first try, when there was one.
+                    with suppress(FileNotFoundError):
+                        os.unlink(name, dir_fd=within)
             os.fsync(within)
     except OSError as fault:
         raise Stop(_failed(room, fault, part)) from fault
