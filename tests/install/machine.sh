@@ -393,6 +393,8 @@ for line in FILE=/root/.ssh/authorized_keys FILE=/var/lib/rooms/../../../x BACKU
   STANDBY=b.example:/x UNIT=debug-shell PROGRAM=/bin/sh ' FILE=/x'; do
   named "the setting $line" etc/rooms/invoices.conf "echo '$line' >>etc/rooms/invoices.conf"
 done
+named "a file that a directory is told" etc/rooms/directory \
+  'echo SECRET=/etc/rooms/restic.password >>etc/rooms/directory'
 named "the key of passwords" etc/rooms/passwords.key \
   'echo "error_log /x;" >>etc/rooms/passwords.key'
 for name in rooms/x rooms/nginx/x letsencrypt/cli.ini letsencrypt/renewal/x.conf \

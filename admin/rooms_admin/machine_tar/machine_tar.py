@@ -31,7 +31,7 @@ _PLAIN = re.compile(
 _PLAIN_KEY = re.compile(rb"proxy_set_header Rooms-Key [0-9a-f]{48};\n")
 _PASSWORDS = re.compile(rf"({passwords.KEPT[1:]}/({passwords.NAME}|{passwords.FIRST})"
                         rf"|etc/nginx/{passwords.NAME})", re.ASCII)
-_SITE = "etc/nginx/sites-available/rooms"
+_SITE, _DIRECTORY = "etc/nginx/sites-available/rooms", "etc/rooms/directory"
 _ROOM = re.compile(r"etc/rooms/[^/]+\.conf", re.DOTALL)
 
 
@@ -249,6 +249,9 @@ def is_plain(tar: Tar, name: str) -> bool:
         return not name.startswith("etc/ssl/certs/")
     if _ROOM.fullmatch(name):
         return _is_plain_room(name, file.data)
+    if name == _DIRECTORY:
+        # Whoever is at its URI is told the first line of this file.
+        return settings.matches(r"(/etc/rooms/[^/]+\.secret)?", setting_of(file.data, "SECRET"))
     if name == template.KEY[1:]:
         return _PLAIN_KEY.fullmatch(file.data) is not None
     return _is_made(tar) if name == _SITE else _PLAIN.fullmatch(name) is not None
