@@ -70,7 +70,12 @@ tells() { # NAME TEXT: a day's copy fails, and the log and the mail of cron say 
   holds "$1: the log" grep -qF -e "$2" "$machine/root/logged"
 }
 copies() { inside ': >logged; /etc/cron.daily/rooms-offsite; wc -c <logged'; }
-tells 'no way to copy' 'rooms-offsite: not found'
+tells 'no way to copy' 'rooms-offsite: status 127'
+does 'one that hangs' 'printf "#!/bin/sh\nexec sleep 9999\n" >/usr/local/sbin/rooms-offsite
+  chmod 755 /usr/local/sbin/rooms-offsite; sed -i.kept s/20h/1s/ /etc/cron.daily/rooms-offsite'
+tells 'one that hangs' 'rooms-offsite: status 124'
+does 'neither is there' 'rm /usr/local/sbin/rooms-offsite
+  mv /etc/cron.daily/rooms-offsite{.kept,}'
 if [ -n "$restic" ]; then
   does 'a repository' "$(block docs/backup.md '/mnt/offsite --password-file')"
   password=$(tail -n 1 "$work/out")
