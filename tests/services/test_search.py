@@ -11,7 +11,7 @@ from unittest import mock
 import papers
 from dated_door import line
 from fake_room import Path
-from rooms_services.door.search import asking, search
+from rooms_services.door.search import asking, reading, search
 from rooms_services.door.search.reading import Reading
 from rooms_services.texts import feed
 from rooms_services.texts.sink import State
@@ -22,6 +22,34 @@ SECRET, NONSENSE = "Geheimwort", "Unsinnwort"
 
 def path(text: str) -> Path:
     return tuple(text.strip("/").split("/"))
+
+
+class Memory(unittest.TestCase):
+    def test_texts_that_are_looked_at_at_once(self) -> None:
+        """Of a MiB in which each sign becomes eighteen, by as many searches as there may be."""
+        text = "\ufdfa" * 20_000
+        now = most = 0
+        lock = threading.Lock()
+
+        def counts(*given: object) -> reading.Read:
+            nonlocal now, most
+            with lock:
+                now += 1
+                most = max(most, now)
+            time.sleep(0.01)
+            with lock:
+                now -= 1
+            return reading.LATER
+        read = reading.Reading("nowhere")
+        with mock.patch.object(feed, "text_of", return_value=(State.WHOLE, text)), \
+                mock.patch.object(reading, "looked", counts):
+            threads = [threading.Thread(target=lambda: list(read.each([b"x"] * 9, ["word"], 60.0)))
+                       for _ in range(4)]
+            for thread in threads:
+                thread.start()
+            for thread in threads:
+                thread.join()
+        self.assertLessEqual(most, reading.MOST)
 
 
 class Found(Searching):

@@ -47,9 +47,10 @@ class Reading:
             if left <= 0:
                 return LATER
             state, text = feed.text_of(data, self._place, min(left, feed.SECONDS))
+            # (a text may become eighteen times as long while it is looked at)
+            return looked(text, state, words)
         finally:
             self._free.release()
-        return looked(text, state, words)
 
     def each(self, bodies: Iterable[bytes], words: list[str], seconds: float) -> Iterator[Read]:
         """In their order; those for which these seconds aren't enough have none."""
