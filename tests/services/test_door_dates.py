@@ -244,6 +244,21 @@ class Dates(Dated):
             self.assertEqual(self.rows()["a"], {})
             self.assertEqual(self.told("/door/latest/")[0], 503)
 
+    def test_much_in_a_minute(self) -> None:
+        """What is taken goes, though the last file was changed for a new one just now."""
+        clock = [1000.0]
+        with mock.patch.object(journal, "LARGE", 2000), mock.patch.object(
+                journal, "time", mock.Mock(monotonic=lambda: clock[0])):
+            for turn in range(60):
+                self.add(*(line("bob", "PUT", f"/doc/f/a?{'x' * 300}", 204, 3)
+                           for _ in range(4)))
+                for _ in range(3):
+                    self.keeper.catch_up()
+                clock[0] += 1.0
+                total = sum(size for _, size in self.keeper._journal.sizes())
+                self.assertLess(total, 40_000, turn)
+        self.assertEqual(self.rows()["a"], self.A)
+
     def test_one_at_a_time(self) -> None:
         with self.assertRaises(BlockingIOError):
             Keeper(self.at("changes"), "who")

@@ -14,8 +14,9 @@ from . import lines
 # Of one transaction, which takes half a second.
 PART = 1_000_000
 # It is changed when it has so much, or something for so long, since nobody needs what was taken;
-# the old one is looked at for a minute, for who had it open.
-LARGE, AGE, LEFT = 8_000_000, 600.0, 60.0
+# the old one is looked at for a minute, for who had it open, or for some seconds if there is as
+# much again by then: a user may have some MB written in a second.
+LARGE, AGE, LEFT, SOON = 8_000_000, 600.0, 60.0, 5.0
 MODE = 0o620
 # What the disk keeps for it, behind its end: lines have their place while the disk is full.
 KEPT, _KEEP_SIZE = 4_000_000, 1
@@ -106,11 +107,11 @@ class Journal:
 
     def is_old(self) -> bool:
         """Whether something is to be done about that."""
+        now, since = self._stat(NOW), time.monotonic() - self._changed_at
+        is_large = now is not None and now.st_size > LARGE
         if self._stat(OLD):
-            return time.monotonic() - self._changed_at > LEFT
-        now = self._stat(NOW)
-        return now is not None and (now.st_size > LARGE or now.st_size > 0 and (
-            time.monotonic() - self._changed_at > AGE))
+            return since > (SOON if is_large else LEFT)
+        return is_large or now is not None and now.st_size > 0 and since > AGE
 
     def old(self) -> tuple[int, int] | None:
         """The number and size of the old one, if that is no second name of the present one."""

@@ -376,7 +376,7 @@ class Store:
         return int(self.told(what) or 0)
 
     def note_gap(self, now: int) -> None:
-        """Until now a change may not have been seen. (The clock may have been set back a little.)"""
+        """A change may not have been seen. (The clock may have been set back a little.)"""
         copy = self._moment(COPY)
         self.keep_told(GAP, str(max(now, copy) if copy <= ahead() else now))
 
