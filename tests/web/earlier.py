@@ -93,6 +93,14 @@ class Nights:
         days = bob.script("return [...document.querySelectorAll('select.night optgroup')]"
                           '.map((one) => one.label);')
         assert [one.split(' ')[1] for one in days] == ['2', '1'], days
+        # Nothing touches what is beside it.
+        between, above, title = bob.script("""
+            const box = (css) => document.querySelector(css).getBoundingClientRect();
+            return [box('table.then [data-act=back]').left - box('table.then [data-act=get]').right,
+              box('table.then').top - box('.then-hint').bottom,
+              document.querySelector('h1').textContent]""")
+        assert between > 3 and above > 7, (between, above)
+        assert title.replace('\u2068', '').replace('\u2069', '') == 'letters – earlier', title
         assert bob.unnamed() == [], bob.unnamed()
 
     def on_a_telephone(self):

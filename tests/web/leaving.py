@@ -145,6 +145,22 @@ class Leaving:
         alice.until(lambda: alice.script(ASKS), 'a question, if it is left now')
         alice.says('4 documents were removed')
         alice.until(lambda: not alice.script(ASKS), 'none any more')
+        # So it is in the middle of a move of several.
+        self.ask('POST', '/folder/many/box')
+        alice.open('#/many')
+        alice.script("""window.realFetch = window.fetch;
+            window.fetch = async (...words) => { if (String(words[0]).startsWith('door/move')) {
+              await new Promise((resolve) => { setTimeout(resolve, 600); }); }
+              return window.realFetch(...words); };""")
+        for name in ('part 6.txt', 'part 7.txt'):
+            alice.click(alice.one(f'[aria-label="Select: {name}"]'))
+        alice.press('Move', '.chosen')
+        alice.press('box', 'dialog .chooser')
+        alice.until(lambda: '/many/box' in alice.texts('dialog .where')[0], 'the place')
+        alice.press('Move them here', 'dialog .actions')
+        alice.until(lambda: alice.script(ASKS), 'a question, if it is left in the middle')
+        alice.says('2 objects moved to')
+        alice.until(lambda: not alice.script(ASKS), 'none once it is done')
 
     def renames(self):
         """What isn't theirs to rename is told as that, with whom to ask."""

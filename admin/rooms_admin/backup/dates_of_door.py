@@ -26,15 +26,16 @@ SELECT path, at, size FROM below JOIN node USING(id) WHERE at IS NOT NULL
 
 def _opened(file: str) -> sqlite3.Connection:
     """Beside a door that writes it. One that rests has left nothing beside it."""
+    fault: sqlite3.Error | None = None
     for how in ("mode=ro", "mode=ro&immutable=1"):
-        known = sqlite3.connect(f"file:{quote(file)}?{how}", uri=True)
         try:
+            known = sqlite3.connect(f"file:{quote(file)}?{how}", uri=True)
             known.execute("PRAGMA trusted_schema = OFF")
             known.execute("SELECT count(*) FROM node").fetchone()
             return known
-        except sqlite3.OperationalError:
-            known.close()
-    raise SystemExit("no dates can be read")
+        except sqlite3.Error as why:
+            fault = why
+    raise SystemExit(f"{file} can't be read: {fault}")
 
 
 def main() -> None:
