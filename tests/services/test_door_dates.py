@@ -1,8 +1,10 @@
 """What the door tells of changes, by the journal, and to whom."""
+import io
 import os
 import sqlite3
 import time
 import unittest
+import zipfile
 from unittest import mock
 
 from dated_door import NOW, Dated, line
@@ -116,6 +118,21 @@ class Dates(Dated):
             with mock.patch.object(walk, what, most):
                 self.assertEqual(self.told("/door/latest/f"), (413, {"why": "too-many"}))
                 self.assertEqual(self.told("/door/folder/f"), (413, {"why": "too-many"}))
+
+    def test_a_zip(self) -> None:
+        """With the moments that its caller is told, and no others."""
+        self.add(line("bob", "PUT", "/doc/f/a", 204, 3), line("bob", "PUT", "/doc/f/b", 204, 3),
+                 line("bob", "PUT", "/doc/f/g/c", 204, 3, at=NOW + 100))
+        self.room.denied = {("alice", "/f/b", "t")}
+        self.rows()
+        whole = zipfile.ZipFile(io.BytesIO(self.ask("GET", "/door/zip/f")[2]))
+        self.assertIsNone(whole.testzip())
+        moments = {one.filename: one.date_time for one in whole.infolist()}
+        first = (1980, 1, 1, 0, 0, 0)
+        self.assertEqual((moments["f/b"], moments["f/"]), (first, first))
+        for name, at in (("f/a", NOW), ("f/g/c", NOW + 100)):
+            then = time.localtime(int(at))
+            self.assertEqual(moments[name], (*then[:5], then.tm_sec // 2 * 2))
 
     def test_what_is_gone_has_no_row(self) -> None:
         self.add(line("bob", "PUT", "/doc/f/a", 201, 3), line("bob", "DELETE", "/object/f/a"))

@@ -113,7 +113,8 @@ def _pages(asked: Asked) -> Answer:
 
 def _zip(asked: Asked) -> Answer:
     return archive(asked.room, asked.user, asked.names,
-                   chosen_in(asked.query) if asked.query else None)
+                   chosen_in(asked.query) if asked.query else None,
+                   asked.dates.moments if asked.dates else None)
 
 
 def _read(asked: Asked) -> Answer:

@@ -381,6 +381,11 @@ class Keeper:
         except Unknown:
             return {}
 
+    def moments(self, folder: Names) -> dict[str, int]:
+        """When the documents in a folder changed, in seconds, as far as that is known."""
+        return {name: known.at // 1000 for name, known in self.children(folder).items()
+                if known.at is not None and not known.is_folder}
+
     def vouched(self) -> int | None:
         """The moment of the last night's copy, if all changes since then are known."""
         return self._ask(lambda store: store.vouched())

@@ -4,7 +4,7 @@ as it is read. So a fault in the middle breaks the download off, and no half ZIP
 import re
 import time
 import unicodedata
-from collections.abc import Iterable, Iterator
+from collections.abc import Callable, Iterable, Iterator
 from urllib.parse import quote
 
 from rooms_admin.cli import signs
@@ -70,10 +70,18 @@ def _key(name: str) -> str:
     return unicodedata.normalize("NFC", name).casefold()
 
 
+# What is known of a folder: when documents in it changed, by their names, in seconds.
+Moments = Callable[[Names], dict[str, int]]
+
+
 class Archive:
-    def __init__(self, room: Room, user: str) -> None:
+    def __init__(self, room: Room, user: str, moments: Moments | None = None) -> None:
         self.room = room
         self.walk = Walk(room, user)
+        self.moments = moments
+        # Those of which the caller may know when they changed; and what is known of one folder.
+        self.dated: set[Node] = set()
+        self._of_folder: tuple[Node | None, dict[str, int]] = None, {}
         self.folders: list[Node] = []
         self.documents: list[Node] = []
         self.left_out: list[Node] = []
@@ -82,7 +90,7 @@ class Archive:
         self.list_of_rest = LEFT_OUT
         # Whether it may be read is asked first: no record says of somebody who wanted a folder that
         # they tried to read what is closed to them.
-        self.can = Step("can", "rx", self._may)
+        self.can = Step("can", "rxt", self._may)
         self.list = Step("folder", "", self._children)
 
     def look(self, names: Names, chosen: frozenset[str] | None) -> Answer:
@@ -127,6 +135,17 @@ class Archive:
             self.walk.ask(self.list, node)
         else:
             self.documents.append(node)
+            if may.get("t") and self.moments:
+                self.dated.add(node)
+
+    def _moment(self, node: Node) -> int:
+        if node not in self.dated or not self.moments or not node.above:
+            return 0
+        if self._of_folder[0] is not node.above:
+            path = node.above.path
+            self._of_folder = node.above, self.moments(
+                tuple(path.split("/")[1:]) if path != "/" else ())
+        return self._of_folder[1].get(node.name.decode(), 0)
 
     def _places(self, nodes: Iterable[Node]) -> Iterator[str]:
         """The paths in the ZIP, of nodes many of which are in the same folder."""
@@ -182,7 +201,7 @@ class Archive:
         sent: list[Node] = []
         for node, data in self._read(time.monotonic() + SECONDS):
             sent.append(node)
-            yield from out.entry(next(self._places([node])), data)
+            yield from out.entry(next(self._places([node])), data, self._moment(node))
         names = [self._places(self.folders), self._places(sent)]
         if self.left_out:
             name = self._place(self.folders[0]) + self.list_of_rest
@@ -201,6 +220,7 @@ class _Lines:
         return (f"{node.path}\r\n".encode() for node in self._nodes)
 
 
-def archive(room: Room, user: str, names: Names, chosen: frozenset[str] | None = None) -> Answer:
+def archive(room: Room, user: str, names: Names, chosen: frozenset[str] | None = None,
+            moments: Moments | None = None) -> Answer:
     """All that is in the folder, or what has one of the chosen names."""
-    return Archive(room, user).look(names, chosen)
+    return Archive(room, user, moments).look(names, chosen)
