@@ -112,6 +112,8 @@ class Large:
         for name, user in both.items():
             os.makedirs(f'{self.folder}/of {name}', exist_ok=True)
             self.send(user, f'of {name}/scan.bin', data[name])
+        for user in both.values():
+            user.press('Replace it', 'dialog')
         asked = self.alice.until(lambda: [name for name, user in both.items()
                                           if user.texts('dialog h2') == [CHANGED]], CHANGED,
                                  4 * PATIENCE)

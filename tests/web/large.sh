@@ -1,5 +1,5 @@
-# Documents of more than 1 MiB in the page, behind nginx, in Chromium, and with ROOMS_LARGE=80 such of
-# 80 MB in Firefox too.
+# Documents of more than 1 MiB in the page, behind nginx, in Chromium; with ROOMS_LARGE=80 some of
+# 80 MB, and in Firefox too.
 
 . "$here/lib/front.sh"
 . "$here/lib/browsers.sh"
