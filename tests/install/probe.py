@@ -59,7 +59,8 @@ def main():
         tries(f"read {path}", lambda path=path: reads(path))
     for path in ("/var/lib/rooms", "/var/backups/rooms", "/var/lib/rooms-web", "/run/rooms/office",
                  "/run/rooms-front", "/run/rooms-front/remembered", "/var/lib/rooms-passwords",
-                 "/var/cache/rooms-nights", "/var/log/nginx", "/var/cache/rooms-texts/office"):
+                 "/var/cache/rooms-nights", "/var/log/nginx", "/var/cache/rooms-texts/office",
+                 "/var/cache/rooms-texts-copies/office"):
         tries(f"list {path}", lambda path=path: listed(path))
     for path in ("/etc", "/etc/nginx", "/etc/rooms", "/usr", "/run", "/run/rooms-full",
                  "/run/rooms/invoices", "/var/lib",

@@ -75,8 +75,9 @@ does 'hostile documents' 'cd tests &&
   PYTHONPATH=/usr/share/rooms python3 -B hostile_papers.py none /run/rooms-extract/socket'
 passes 'each of them' "$(grep -c ' s$' "$work/out")"
 # A program of somebody else's in the place of each.
-does 'what there is to find' 'mkdir -m 700 /var/cache/rooms-texts/office.copy
-  chown rooms-texts: /var/cache/rooms-texts/office.copy; echo key >/etc/ssl/private/probe.key
+does 'what there is to find' 'mkdir -m 700 /var/cache/rooms-texts-copies/office
+  touch /var/cache/rooms-texts-copies/office/room
+  chown rooms-texts: /var/cache/rooms-texts-copies/office; echo key >/etc/ssl/private/probe.key
   chmod 600 /etc/ssl/private/probe.key; echo key >/etc/rooms/passwords.key; chmod 1777 /var/tmp'
 in_place() { # UNIT PROGRAM
   mkdir -p "$machine/etc/systemd/system/$1.service.d"
@@ -158,8 +159,8 @@ probed() { # NAME UNIT INSTANCE WHAT-IT-CAN-DO ..
 }
 probed 'who keeps texts' rooms-texts '' 'list /var/cache/rooms-texts/office' 'write /var/tmp'
 probed 'who has a night read' rooms-texts-night@ office \
-  'list /var/cache/rooms-texts/office' 'write /var/tmp' \
-  'write /var/cache/rooms-texts/office' 'ask /run/rooms-extract/socket' \
+  'list /var/cache/rooms-texts/office' 'list /var/cache/rooms-texts-copies/office' \
+  'write /var/tmp' 'write /var/cache/rooms-texts/office' 'ask /run/rooms-extract/socket' \
   'ask /run/rooms-scan/socket'
 
 # What goes with the setting, and with the room.

@@ -1,6 +1,7 @@
 """Texts of documents for searches (docs/search.md), of rooms with SEARCH=yes: each night a service
 has those of the verified copy read. Root brings it a copy of its own, in a folder of root's, and
 reads nothing of what it writes but names."""
+import contextlib
 import json
 import os
 import pwd
@@ -14,8 +15,9 @@ from ..room.published import ROOT
 from ..room.settings import Room
 from ..cli.report import Interrupted, Stop
 
-# Each room has a folder there, of this user.
-PLACE, USER = "/var/cache/rooms-texts", "rooms-texts"
+# Each room has a folder there, of this user; and while a night reads its copy, another one where who
+# keeps texts doesn't get to: a copy has members and records too.
+PLACE, COPIES, USER = "/var/cache/rooms-texts", "/var/cache/rooms-texts-copies", "rooms-texts"
 # In a room's folder: what has no text, and why.
 LIST = "without.csv"
 _NIGHT = re.compile(r"night\.([1-9][0-9]{0,17})")
@@ -30,7 +32,7 @@ def build(room: Room, kept: str, at: int, night: str) -> str:
     hindered that: until the next night nothing is found then."""
     if not room.search or os.geteuid() != 0:
         return ""
-    folder = f"{ROOT}{PLACE}/{room.name}.copy"
+    folder = f"{ROOT}{COPIES}/{room.name}"
     try:
         _bring(room, kept, folder, {"at": at, "night": night, "scans": room.scans})
         reads = unit(room.name)
@@ -53,10 +55,10 @@ def _bring(room: Room, kept: str, folder: str, about: dict[str, object]) -> None
         found = pwd.getpwnam(USER)
     except KeyError:
         raise Stop(f"no user {USER}: systemd-sysusers rooms.conf") from None
-    above = os.path.dirname(folder)
-    if not os.path.isdir(above):
-        os.mkdir(above, 0o711)
-        os.chmod(above, 0o711)
+    for above in (ROOT + PLACE, ROOT + COPIES):
+        if not os.path.isdir(above):
+            os.mkdir(above, 0o711)
+            os.chmod(above, 0o711)
     # One that a run has left which was killed.
     safe.remove_folder(folder)
     os.mkdir(folder, 0o700)
@@ -84,17 +86,19 @@ def age(room: Room) -> float | None:
 
 def tidy(made: Changes, kept: set[str]) -> None:
     """Only rooms of these names have texts."""
-    try:
-        there = os.listdir(made.root + PLACE)
-    except OSError:
-        return
-    for name in sorted(there):
-        if name.removesuffix(".copy") not in kept:
-            remove(made, name)
+    there: set[str] = set()
+    for place in (PLACE, COPIES):
+        with contextlib.suppress(OSError):
+            there |= set(os.listdir(made.root + place))
+    for name in sorted(there - kept):
+        remove(made, name)
 
 
 def remove(made: Changes, name: str) -> None:
     """Whoever has them open has them no longer."""
-    if os.path.isdir(f"{made.root}{PLACE}/{name}"):
-        made.remove_folder(f"{PLACE}/{name}")
+    found = [f"{place}/{name}" for place in (PLACE, COPIES)
+             if os.path.isdir(f"{made.root}{place}/{name}")]
+    for folder in found:
+        made.remove_folder(folder)
+    if found:
         made.systemctl("try-restart", "rooms-texts.service", check=False)

@@ -263,7 +263,7 @@ def run() -> int:
     if not names.is_room(room):
         raise SystemExit("rooms-service: ROOM is no name of a room: its unit starts this")
     os.umask(0o077)
-    folder = os.path.join(nights.FOLDER, f"{room}.copy")
+    folder = os.path.join(nights.COPIES, room)
     with open(f"{folder}/about", "rb") as source:
         about = json.loads(source.read(4096))
     scans = 60 * int(about["scans"])

@@ -7,6 +7,8 @@ from collections.abc import Iterator
 from .store import NoStore, Store
 
 FOLDER = os.environ.get("ROOMS_TEXTS", "/var/cache/rooms-texts")
+# Where root puts the copy of a night that is read.
+COPIES = f"{FOLDER}-copies"
 _NIGHT = re.compile(r"night\.([1-9][0-9]{0,17})")
 NEW = "new"
 
