@@ -1,7 +1,9 @@
 """What others than root can leave where rooms-admin looks as root, and how it can be kept waiting:
 python3 -m unittest test_attacks."""
 import argparse
+import contextlib
 import dataclasses
+import io
 import os
 import re
 import signal
@@ -13,16 +15,17 @@ import time
 import types
 import unittest
 import unittest.mock
+from collections.abc import Iterator
 
 _MADE = tempfile.TemporaryDirectory()
 ROOT = _MADE.name
 os.environ["ROOMS_ROOT"] = ROOT
 sys.path.insert(0, os.path.join(os.path.dirname(__file__), "..", "..", "admin"))
 
-from rooms_admin.host import tempdirs, waiting  # noqa: E402
-from rooms_admin.room import health, program, server, settings  # noqa: E402
+from rooms_admin.host import locks, tempdirs, waiting  # noqa: E402
+from rooms_admin.room import health, program, published, server, settings  # noqa: E402
 from rooms_admin.passwords import passwords  # noqa: E402
-from rooms_admin.backup import copying  # noqa: E402
+from rooms_admin.backup import backups, copying  # noqa: E402
 from rooms_admin.lists import dump, records  # noqa: E402
 from rooms_admin.people import handing_over, members  # noqa: E402
 from rooms_admin.directory import groups  # noqa: E402
@@ -258,6 +261,45 @@ class Apart(unittest.TestCase):
         for asks in (1 << 30, 100 << 20, ""):
             with self.assertRaisesRegex(Stop, "64 MB"):
                 waiting.Apart(eats, 64 << 20).ask(asks, 60)
+
+
+class Rests(unittest.TestCase):
+    """What a server that rests doesn't wait for."""
+
+    def test_groups_of_a_directory(self) -> None:
+        """A disk of backups that hangs, and somebody who reads slowly what is printed."""
+        did: list[str] = []
+
+        @contextlib.contextmanager
+        def rests(_room: settings.Room) -> Iterator[None]:
+            did.append("stop")
+            yield
+            did.append("start")
+
+        def looks(_room: settings.Room) -> None:
+            did.append("looks")
+            raise waiting.Hangs("it hangs")
+        with tempfile.TemporaryDirectory() as folder, contextlib.ExitStack() as mocks:
+            room = room_of(folder)
+            for name, text in ((room.file, "x"), (f"{folder}/x.groups", "group staff = s\n")):
+                with open(name, "w", encoding="ascii") as made:
+                    made.write(text)
+            for module, name, what in (
+                    (server, "at_rest", rests), (backups, "known", looks),
+                    (members, "read", lambda _room: {("staff", "bob")}),
+                    (members, "change", lambda *_given: did.append("change")),
+                    (groups, "show", lambda change: did.extend(change.lines())),
+                    (locks, "FOLDER", f"{folder}/locks"), (published, "FOLDER", f"{folder}/web")):
+                mocks.enter_context(unittest.mock.patch.object(module, name, what))
+            task = groups.Run(room, argparse.Namespace(dry_run=False, force=False),
+                              mocks.enter_context(contextlib.ExitStack()))
+            mocks.enter_context(unittest.mock.patch.object(
+                task, "ask", lambda _groups: {("staff", "alice")}))
+            mocks.enter_context(contextlib.redirect_stderr(io.StringIO()))
+            task.bring()
+            self.assertEqual(did[:6], ["looks", "stop", "change", "start", "+ staff,alice",
+                                       "- staff,bob"])
+            self.assertEqual(task.failures, ["it hangs"])
 
 
 class Copies(unittest.TestCase):

@@ -1,11 +1,10 @@
 """Groups of a room brought into line with those of the directory."""
 import argparse
-import contextlib
 import os
 from contextlib import ExitStack
 
 from ..cli import report
-from ..host import locks
+from ..host import locks, waiting
 from ..room import names, server, settings
 from ..backup import backups, texts
 from ..lists import dump, entries
@@ -15,6 +14,7 @@ from ..cli.report import Refused, Stop, say
 from ..room.settings import Room
 from ..lists.dump import Pair
 from ..people.joining import Change
+from ..people.known import Known
 from .directory import GROUPS, Directory, NoSuchEntry
 
 # The program takes no more from a file.
@@ -154,7 +154,15 @@ class Run:
     def known(self) -> set[Pair] | None:
         """What was read or applied last, or the members in the last backup if that is newer. Both
         count only for the file of which they are known."""
-        last, kept = self.last(), known.kept(self.room)
+        kept = known.kept(self.room)
+        try:
+            last = self.last()
+        except waiting.Hangs as hangs:
+            if self.dry:
+                raise
+            # Whoever has left goes all the same.
+            self.failures.append(str(hangs))
+            last = None
         if kept is None or kept.file != known.which_file(self.room) or not kept.file:
             if not (self.dry and last):
                 return None
@@ -188,22 +196,28 @@ class Run:
                 return
             self.guard(going, len(others | wanted), most)
         self.lock()
-        with contextlib.suppress(OSError):
-            # Where an earlier version kept what was known.
-            os.unlink(os.path.join(backups.folder(self.room), ".directory.csv"))
-        with server.at_rest(self.room):
+        self.change(wanted, groups, most)
+
+    def change(self, wanted: set[Pair], groups: dict[str, str], most: int) -> None:
+        """While the server rests nothing is printed, and no disk of backups is asked: both may
+        take as long as they like."""
+        with ExitStack() as after, server.at_rest(self.room):
             now = members.read(self.room)
             # What is refused now is refused without a stop the next time.
-            known.try_to_keep(self.room, known.here(self.room, now))
+            after.callback(known.try_to_keep, self.room, known.here(self.room, now))
             coming, going, others = compare(now, wanted, groups)
             self.guard(going, len(others | wanted), most)
             change = Change(now, coming, going)
-            show(change)
             if not change.is_none:
+                after.pop_all()
                 then = known.change(self.room, now, coming, going)
-                say(joining.counted(then))
-                for failure in offered.write(self.room, known.here(self.room, then)):
-                    say(failure)
+                after.callback(self.tell, change, known.here(self.room, then))
+
+    def tell(self, change: Change, then: Known) -> None:
+        show(change)
+        say(joining.counted(then.members))
+        for failure in offered.write(self.room, then):
+            say(failure)
 
     def names(self) -> None:
         """Users of the room, as the last backup has them in lists and groups, whom the directory
