@@ -22,8 +22,8 @@ start_door office --drive=yes
 # Without windows LibreOffice asks for no password, so each user has a port that adds it.
 at=$((port + 5))
 for who in alice bob carol; do
-  printf 'server { listen 127.0.0.1:%d; location / { proxy_pass http://127.0.0.1:%d;
-    proxy_set_header Host $http_host; proxy_set_header Authorization "Basic %s"; } }\n' \
+  printf 'server { listen 127.0.0.1:%d; client_max_body_size 0;
+    location / { proxy_pass http://127.0.0.1:%d; proxy_set_header Host $http_host; proxy_set_header Authorization "Basic %s"; } }\n' \
     "$at" "$front" "$(printf '%s:%s' "$who" "${who:0:1}" | base64)"
   declare "of_$who=http://127.0.0.1:$at/drive"
   at=$((at + 1))
