@@ -13,6 +13,7 @@ import tarfile
 import tempfile
 import time
 import types
+import typing
 import unittest
 import unittest.mock
 from collections.abc import Iterator
@@ -33,7 +34,7 @@ from rooms_admin.machine_tar import machine  # noqa: E402
 from rooms_admin.check import watched  # noqa: E402
 from rooms_admin.cli.report import Stop  # noqa: E402
 from rooms_admin.room.size import Used  # noqa: E402
-from rooms_admin.directory.directory import Directory  # noqa: E402
+from rooms_admin.directory.directory import Directory, Entry  # noqa: E402
 
 # More than Python's functions go into one another.
 DEEP = 1500
@@ -364,6 +365,18 @@ class Lies(unittest.TestCase):
     def test_pages(self) -> None:
         with self.assertRaisesRegex(Stop, "the directory failed: no answer within 1 seconds"):
             endless(1).search("dc=x", True, "(x=y)", [])
+
+    def test_names_fill_no_log(self) -> None:
+        rows = [Entry(f"uid={number}\n{'x' * 9999}", {}) for number in range(5000)]
+        told = argparse.Namespace(where=argparse.Namespace(base="", users="", name="uid"),
+                                  search=lambda *_: rows)
+        with contextlib.redirect_stderr(io.StringIO()) as said:
+            groups.Asked(typing.cast(Directory, told))
+        lines = said.getvalue().splitlines()
+        self.assertEqual(len(lines), 51)
+        self.assertRegex(lines[0], r"left out: uid=0\\nx+ has no uid$")
+        self.assertLess(max(map(len, lines)), 300)
+        self.assertRegex(lines[-1], "left out: 4950 more$")
 
     def test_groups_in_groups(self) -> None:
         asked = groups.Asked.__new__(groups.Asked)

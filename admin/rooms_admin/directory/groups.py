@@ -1,6 +1,7 @@
 """Groups of a room brought into line with those of the directory."""
 import argparse
 import os
+from collections.abc import Sized
 from contextlib import ExitStack
 
 from ..cli import report
@@ -21,10 +22,21 @@ from .directory import GROUPS, Directory, NoSuchEntry
 LIMIT = 20000
 # A directory that always names another one would never end.
 GROUPS_IN_ONE = 10000
+# So many names that no room takes are told, and so many letters of each.
+_TOLD, _LONG = 50, 200
 
 
 class NoGroup(Refused):
     """The directory hasn't that one, or several."""
+
+
+def _short(text: str) -> str:
+    return report.line(text[:_LONG])
+
+
+def _tell_rest(found: Sized) -> None:
+    if len(found) > _TOLD:
+        say(f"left out: {len(found) - _TOLD} more")
 
 
 class Asked:
@@ -35,13 +47,16 @@ class Asked:
         self.users: dict[str, str] = {}
         self._members: dict[str, list[str]] | None = None
         where = directory.where
+        out = []
         for entry in directory.search(where.base, True, where.users, [where.name]):
             values = entry.values.get(where.name.lower(), [])
             if len(values) == 1:
                 self.users[directory.key(entry.dn)] = values[0]
             else:
-                say(f"left out: {report.line(entry.dn)} has {'several' if values else 'no'} "
-                    f"{where.name}")
+                out.append((entry.dn, "several" if values else "no"))
+        for dn, which in out[:_TOLD]:
+            say(f"left out: {_short(dn)} has {which} {where.name}")
+        _tell_rest(out)
 
     def _find_group(self, what: str) -> str:
         """The DN of a group, by its DN or its cn."""
@@ -128,7 +143,6 @@ class Run:
         asked = Asked(Directory(guests.settings_of(self.room.conf)))
         wanted: set[Pair] = set()
         for name, what in list(groups.items()):
-            pairs = set()
             try:
                 theirs = sorted(asked.members(what))
             except NoGroup as stop:
@@ -137,11 +151,11 @@ class Run:
                     raise
                 self.failures.append(f"{name} stays as it is: {stop}")
                 continue
-            for user in theirs:
-                if names.is_user(user):
-                    pairs.add((name, user))
-                else:
-                    say(f"left out of {name}: '{report.line(user)}' can't be a user of a room")
+            pairs = {(name, user) for user in theirs if names.is_user(user)}
+            out = [user for user in theirs if not names.is_user(user)]
+            for user in out[:_TOLD]:
+                say(f"left out of {name}: '{_short(user)}' can't be a user of a room")
+            _tell_rest(out)
             if not pairs and not self.force:
                 raise Refused(f"empty: {name} would have no member; --force if that is meant")
             wanted |= pairs
