@@ -4,11 +4,10 @@
 // or loses something has it in the answer, at each object, and nobody else. With a PROGRAM that is
 // asked, or else standing.mjs, which is then compared with it. The last line is 'ROOMS tried, N
 // faults'.
-import { spawnSync } from 'node:child_process';
 import { resolve } from 'node:path';
 import { pathToFileURL } from 'node:url';
 import { Model, doorBelow } from './model.mjs';
-import { rowsOf } from './standing.mjs';
+import { askerOf, rowsOf } from './standing.mjs';
 
 const [page, rooms, program] = process.argv.slice(2);
 const module = (name) => import(`${pathToFileURL(resolve(page)).href}/${name}`);
@@ -35,16 +34,9 @@ const sorted = (rows) => rows.map((row) => JSON.stringify(row)).sort();
 const letters = 'rxwaDtdcCo';
 const plain = (mask) => [...letters].filter((one) => one !== 'd' && mask.includes(one)).join('');
 
-// A question to the program, or null.
-function byProgram(text) {
-  const { stdout, status } = spawnSync(program, ['would'], { input: text, encoding: 'utf8' });
-  if (status !== 0) throw new Error(`${stdout}\n${text}`);
-  return stdout.trimEnd().split('\n').slice(1).map((line) => line.split(','))
-    .filter(([, , who]) => who !== 'ANONYMOUS@');
-}
-
 const inOrder = (rows) => sorted(rows.map(([path, kind, who, had, removed, has, removes]) =>
   [path, kind, who, plain(had), removed, plain(has), removes]));
+const byProgram = askerOf(program);
 let questions = 0;
 globalThis.fetch = async (target, { body }) => {
   if (target !== 'door/would') throw new Error(target);

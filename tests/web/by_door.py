@@ -145,9 +145,10 @@ class ByDoor:
         before = len(self.requests())
         self.pick('zoe')
         asked = self.requests()[before:]
-        assert [one for one in asked if 'door/' in one] == [
+        assert [one for one in asked if 'door/below' in one] == [
             '/door/below/letters', '/door/below/?letters'], asked
-        assert len(asked) < 6, asked
+        # Two questions, each before and after, and whether the way may be opened.
+        assert len(asked) < 8, asked
         assert 'Let zoe pass' in alice.texts('.adding')[0], alice.texts('.adding')
         alice.script("""[...document.querySelectorAll('summary')]
             .find((one) => one.textContent === 'Exceptions further down').click()""")
@@ -158,7 +159,7 @@ class ByDoor:
         assert self.own_of('/letters') == [*WORKS[:3], 'A:fd:zoe:rxtc', WORKS[3]]
         before = len(self.requests())
         self.pick('yan')
-        assert not [one for one in self.requests()[before:] if 'door/' in one]
+        assert not [one for one in self.requests()[before:] if 'door/below' in one]
         alice.press('Cancel', '.adding')
 
     def several(self):

@@ -1,5 +1,5 @@
 // What the page says of a move, against what comes of it in a room at random:
-// node going.mjs PAGE ROOMS known|unknown [SEED]
+// node going.mjs PAGE ROOMS known|unknown [SEED [PROGRAM]]
 // The room is that of model.mjs, the door and the program are stood in for. Whoever gains or loses
 // reading, changing, removing or managing of something that is moved has to be named, with that or
 // something above it. With 'unknown' the page doesn't know who is in a group; then those who are
@@ -7,9 +7,9 @@
 import { resolve } from 'node:path';
 import { pathToFileURL } from 'node:url';
 import { Model, doorBelow } from './model.mjs';
-import { rowsOf } from './standing.mjs';
+import { askerOf } from './standing.mjs';
 
-const [page, rooms, members, from = '11'] = process.argv.slice(2);
+const [page, rooms, members, from = '11', program = null] = process.argv.slice(2);
 const isKnown = members === 'known';
 const module = (name) => import(`${pathToFileURL(resolve(page)).href}/${name}`);
 let seed = Number(from);
@@ -25,6 +25,7 @@ const GROUPS = { staff: ['bob', 'carol', 'kim', 'dana', 'zoe'], sales: ['dana', 
   board: ['zoe', 'kim', 'carol'] };
 const groupsOf = (user) => Object.keys(GROUPS).filter((one) => GROUPS[one].includes(user));
 
+const rowsOf = askerOf(program);
 let model = null;
 const { readEntry, printList } = await module('entries.js');
 const entryOf = (text) => readEntry(text).entry;

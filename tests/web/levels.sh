@@ -58,6 +58,7 @@ else
   skip 'accesses that end' 'missing: /usr/bin/python3'
 fi
 node_says 'what is said before a list is sent' '72 tried, 0 faults' "$here/web/warning.mjs" page
+node_says 'and with the program' '72 tried, 0 faults' "$here/web/warning.mjs" page "$rooms"
 node_says 'for whom a change is asked about' '50 tried, 0 faults' "$here/web/callers.mjs" page
 node_says 'what is asked and answered about a change' '2000 tried, 0 faults' \
   "$here/web/asking.mjs" page 2000
@@ -66,9 +67,13 @@ node_says 'and what the program says of it' '150 tried, 0 faults' \
 for members in known unknown; do
   node_says "what is said of a move, members $members" '500 tried, 0 faults' \
     "$here/web/going.mjs" page 500 "$members"
+  node_says "the same with the program, members $members" '100 tried, 0 faults' \
+    "$here/web/going.mjs" page 100 "$members" 12 "$rooms"
 done
 node_says 'what the panel says of one click, in rooms at random' '1500 tried, 0 faults' \
   "$here/web/unsaid.mjs" page 1500
+node_says 'what the panel says by the program' '100 tried, 0 faults' \
+  "$here/web/unsaid.mjs" page 100 6 "$rooms"
 node_says 'what was seen further down, after changes' '300 tried, 0 faults' \
   "$here/web/crawling.mjs" page 300
 node_says 'what may not be read, and a room that is away' '42 tried, 0 faults' \

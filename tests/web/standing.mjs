@@ -1,5 +1,6 @@
 // `rooms would` in the place of the program, by the room of model.mjs: for tests that ask thousands
 // of questions. asking.mjs compares it with the program.
+import { spawnSync } from 'node:child_process';
 import { Model } from './model.mjs';
 
 const readEntry = (line) => {
@@ -170,4 +171,16 @@ function comparedRows({ before, after, from, first, callers, seen, isLook }) {
     }
   }
   return rows;
+}
+
+// The same of the program, or of rowsOf where there is none.
+export function askerOf(program) {
+  if (!program) return rowsOf;
+  return (text) => {
+    const { stdout, status } = spawnSync(program, ['would'], { input: text, encoding: 'utf8',
+      maxBuffer: 1 << 26 });
+    if (status !== 0) throw new Error(`${stdout}\n${text}`);
+    return stdout.trimEnd().split('\n').slice(1).map((line) => line.split(','))
+      .filter(([, , who]) => who !== 'ANONYMOUS@');
+  };
 }

@@ -1,5 +1,5 @@
 // What the panel of access says of one click, against what comes of it in a room at random:
-// node unsaid.mjs PAGE TREES [SEED]
+// node unsaid.mjs PAGE TREES [SEED [PROGRAM]]
 // The room is the one of model.mjs; what lies further down is what a door says of it.
 // Whoever gains or loses something has to be named, with words that say as much as the right, and
 // nothing may be said that isn't so. The last line is 'TREES tried, N faults'; the status is 1 if
@@ -7,9 +7,10 @@
 import { resolve } from 'node:path';
 import { pathToFileURL } from 'node:url';
 import { Model, doorBelow } from './model.mjs';
-import { rowsOf } from './standing.mjs';
+import { askerOf } from './standing.mjs';
 
-const [page, trees, from] = process.argv.slice(2);
+const [page, trees, from, program = null] = process.argv.slice(2);
+const rowsOf = askerOf(program);
 const module = (name) => import(`${pathToFileURL(resolve(page)).href}/${name}`);
 const [lists, levels, consequences, words, { seenBelow }] = await Promise.all(
   ['entries.js', 'levels.js', 'consequences.js', 'access_words.js', 'seen_below.js'].map(module));

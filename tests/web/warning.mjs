@@ -1,12 +1,13 @@
 // What the page says before a list is sent that somebody edits, and of owners who aren't known:
-// node warning.mjs PAGE
-// What a room would read to the page is said here, and standing.mjs answers in the place of the
-// program. The last line is 'N tried, M faults'.
+// node warning.mjs PAGE [PROGRAM]
+// What a room would read to the page is said here; without a PROGRAM, standing.mjs answers in its
+// place. The last line is 'N tried, M faults'.
 import { resolve } from 'node:path';
 import { pathToFileURL } from 'node:url';
-import { rowsOf } from './standing.mjs';
+import { askerOf } from './standing.mjs';
 
-const [page] = process.argv.slice(2);
+const [page, program = null] = process.argv.slice(2);
+const rowsOf = askerOf(program);
 const module = (name) => import(`${pathToFileURL(resolve(page)).href}/${name}`);
 const [{ LETTERS, printList, readListText }, { added, judged }, { nearOf, outcomeOf }, words] =
   await Promise.all(['entries.js', 'warnings.js', 'consequences.js', 'access_words.js']

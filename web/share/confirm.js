@@ -92,12 +92,16 @@ export class Told {
   // It can't be said what would come of it; then it may be sent all the same, without what would
   // be offered beside it.
   fail(fault, again) {
+    const anew = () => {
+      this.state.looking.goOn();
+      again();
+    };
     this.told = { ways: () => [], left: () => [] };
     this.text = null;
     this.box.replaceChildren(element('div', { class: 'outcome', 'aria-busy': 'false' },
       element('ul', { class: 'warnings', 'aria-label': texts.acts.mindThis },
         element('li', { class: 'unsure' }, noAnswerWords(fault))),
-      button(texts.acts.anew, again, { class: 'small' })));
+      button(texts.acts.anew, anew, { class: 'small' })));
     this.line.draw(false);
     this.send.disabled = false;
   }
