@@ -136,9 +136,11 @@ export async function outcomeOf(state, next, subject, near) {
 export async function followOutcome(state, next, subject, isWanted, draw) {
   const { looking } = state;
   if (looking.isOld) looking.forget();
+  // The door answers one after the other, and what is short before what is long.
+  const asked = nearOf(state, next, subject);
   belowOf(state);
   looking.run();
-  const near = await nearOf(state, next, subject);
+  const near = await asked;
   openedBy(state, near.opening);
   await looking.follow(async (isBusy) => {
     const outcome = await outcomeOf(state, next, subject, near);
