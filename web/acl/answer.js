@@ -4,7 +4,7 @@
 //   const said = new Said(asked, looked, told, { mark, kindAt, cameFrom });
 //   said.at(path, caller, AFTER)          {mask, removes, raw}, or null where it isn't known
 //   said.extentAt(path, kind, caller, BEFORE)   {level, it, inside, own, all}, or null
-//   said.changed(caller)                  the paths with a row that says that something changes
+//   said.places                           the paths with a row that says that something changes
 //
 // 'looked' are the rows of the question that looks at '/' and changes nothing, and 'told' those of
 // the one that changes something, or null. 'kindAt' says what then stands at a path, and 'cameFrom'
@@ -27,12 +27,14 @@ const toldOf = (kind, mask) => [...(kind === 'folder' ? OF_FOLDER : OF_DOCUMENT)
 const above = (path) => (path === '/' ? null : path.slice(0, path.lastIndexOf('/')) || '/');
 const NOTHING = { mask: '', removes: false, raw: '' };
 
+const unmarked = (path, mark) => path.replaceAll(`/${mark}`, `/${UNNAMED}`);
+
 // The rows of an answer by path and caller.
 class Rows {
   constructor(rows, mark) {
     this.places = new Map();
     for (const [path, kind, key, ...said] of rows) {
-      const at = path.replaceAll(`/${mark}`, `/${UNNAMED}`);
+      const at = unmarked(path, mark);
       if (!this.places.has(at)) this.places.set(at, { kind, callers: new Map() });
       this.places.get(at).callers.set(key, said);
     }
@@ -59,9 +61,15 @@ export class Said {
     this.cameFrom = cameFrom;
     this.looked = new Rows(looked, mark);
     this.told = told && new Rows(told, mark);
+    const changes = (told ?? []).filter(([, , , ...row]) => isChange(row));
+    this.moving = new Set(changes.map(([, , key]) => key));
+    this.places = new Set(changes.map(([path]) => unmarked(path, mark)));
   }
 
   get callers() { return this.asked.all; }
+
+  // Those for whom something changes anywhere.
+  get changing() { return this.asked.all.filter(({ key }) => this.moving.has(key)); }
 
   at(path, { key }, side = AFTER) {
     const said = (raw, removes) => (
@@ -74,24 +82,6 @@ export class Said {
     // Whom only the change names is one of all others before it.
     const before = this.looked.nearest(from, key) ?? this.looked.nearest(from, ANY_OTHER);
     return before ? said(before[0], before[1]) : null;
-  }
-
-  // Whether both are the same, where it is known.
-  isSame(path, caller) {
-    const [had, has] = [BEFORE, AFTER].map((side) => this.at(path, caller, side));
-    return had !== null && has !== null && had.mask === has.mask && had.removes === has.removes;
-  }
-
-  // The places with a row that says that something changes for this caller.
-  changed({ key }) {
-    return [...this.told?.places ?? []].filter(([, { callers }]) =>
-      callers.has(key) && isChange(callers.get(key))).map(([path]) => path);
-  }
-
-  // The places of which nothing is known.
-  unknown() {
-    return [...this.told?.places ?? this.looked.places].filter(([, { callers }]) =>
-      callers.has(NOT_KNOWN)).map(([path]) => path);
   }
 
   // What somebody may do there and with what is in it: {level, it, inside, own, all}. The level is

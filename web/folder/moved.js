@@ -34,11 +34,10 @@ function lettersAt(said, { path, kind }, caller, [had, has]) {
 
 // The places of which is told what changes: what is moved, and below it where there are rows.
 function placesIn(said, { to, object, nodes }) {
-  const rows = new Set(said.callers.flatMap((caller) => said.changed(caller)));
   const then = (path) => `${to}${path.slice(object.path.length)}`;
   return [object, ...nodes].map((one) => ({ ...one, from: one.path, path: then(one.path) }))
-    .filter((one) => one.path === to || rows.has(one.path)
-      || [...rows].some((row) => row.startsWith(`${one.path}/${UNNAMED}`)));
+    .filter((one) => one.path === to || said.places.has(one.path)
+      || [...said.places].some((path) => path.startsWith(`${one.path}/${UNNAMED}`)));
 }
 
 // What each caller gains or loses at the places of a piece, and wasn't told of nearer to the top:
@@ -46,7 +45,7 @@ function placesIn(said, { to, object, nodes }) {
 function changesOf(said, places, sides, me) {
   const told = new Map();
   return places.map((place) => {
-    const found = said.callers.filter(({ user }) => user !== me).flatMap((caller) => {
+    const found = said.changing.filter(({ user }) => user !== me).flatMap((caller) => {
       const letters = lettersAt(said, place, caller, sides) ?? [];
       const above = [...told.get(caller.id) ?? []].filter(({ path }) =>
         place.path.startsWith(`${path}/`)).flatMap(({ says }) => says);

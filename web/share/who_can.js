@@ -37,7 +37,7 @@ function differenceAt(said, { path, kind }, caller) {
 
 
 // Whose rights at an object differ: callers, each with what differenceAt says.
-export const changesAt = (said, place) => toTell(said.callers.map((caller) =>
+export const changesAt = (said, place) => toTell(said.changing.map((caller) =>
   differenceAt(said, place, caller)).filter((one) => one !== null))
   .map(({ caller, ...change }) => ({ ...caller, ...change }));
 
