@@ -52,6 +52,16 @@ printed 'is set' '+ U:fdF:EVERYONE@:rx' 'done'
 room_verb list show --sacl '/a b'
 printed 'and shown' list:a U:fdF:EVERYONE@:rx
 
+# Of a document in parts it would be that of one of them.
+for name in scan scan~rooms-part-0001; do
+  holds "a part of a document ($name)" [ "$(at_socket alice PUT "doc/letters/$name" x)" = 201 ]
+done
+sets $'list:ap\nA:fd:alice:rxtc' /letters/scan
+says 'a document in parts' 2 'not set: /letters/scan is kept in parts'
+stops_are 'stops nothing' 0
+sets $'list:ap\nA:fd:alice:rxtc' /letters/scan~rooms-part-0001 --dry-run
+ended_well 'one of them alone, by its name'
+
 # What can't be is refused before anything stops.
 for wrong in 'no entry;list:a|A:fd:bob;/letters;not set: refused: line 2: A' \
   'no list;A:fd:bob:rxtc;/letters;not set: refused: line 1: A' \

@@ -10,7 +10,7 @@ import difflib
 import os
 
 from ..cli import words
-from ..room import names, private_server, program, server, settings
+from ..room import in_parts, names, private_server, program, server, settings
 from ..lists import dump, naming
 from ..people import joining, look, members
 from . import asked
@@ -40,8 +40,19 @@ def _whole(lists: bytes, path: bytes, which: str) -> tuple[list[bytes], bool]:
     raise Refused(f"no object: {names.shown(path)} isn't in the room")
 
 
+def _refuse_parts(lists: bytes, path: bytes) -> None:
+    """Whoever could read a document in parts could read the rest of it by these."""
+    above, _, name = path.rpartition(b"/")
+    beside = [os.fsdecode(one.path[len(above) + 1:]) for one in dump.parsed(lists.split(b"\n"))
+              if one.kind == "document" and one.path.rpartition(b"/")[0] == above]
+    if os.fsdecode(name) in in_parts.hidden(beside).values():
+        raise Refused(f"not set: {names.shown(path)} is kept in parts: who manages it sets the list"
+                      " of all of them, in the web interface")
+
+
 def _own(lists: bytes, path: bytes, which: str) -> list[str]:
     """Without what it inherits, which comes anew."""
+    _refuse_parts(lists, path)
     found, is_linked = _whole(lists, path, which)
     return [dump.as_text(line) for line in found if not (is_linked and is_inherited(line))]
 
