@@ -61,7 +61,7 @@ export class Said {
     this.cameFrom = cameFrom;
     this.looked = new Rows(looked, mark);
     this.told = told && new Rows(told, mark);
-    const changes = (told ?? []).filter(([, , , ...row]) => isChange(row));
+    const changes = (told ?? []).filter((row) => isChange(row.slice(3)));
     this.moving = new Set(changes.map(([, , key]) => key));
     this.places = new Set(changes.map(([path]) => unmarked(path, mark)));
   }
