@@ -59,6 +59,9 @@ const listsIn = (objects) => [...new Set(objects.map(({ text }) => text))]
   .filter((text) => text && text !== FOLLOWS).map((text) => readListText(text).list)
   .filter(Boolean);
 
+// What stands for all that only follow a folder: what changes for it has both states in its row.
+const isAlike = ({ path }) => /\u0000\d*(\/|$)/.test(path);
+
 // The questions, with as many groups together as fit: {asked, texts}.
 function written({ objects, changes, beside, known, me, then }, mark) {
   const all = [...objects, ...changes];
@@ -66,8 +69,10 @@ function written({ objects, changes, beside, known, me, then }, mark) {
   const names = namesIn(listsIn(named), named.flatMap(({ object }) => object ?? []));
   for (let most = 3; most >= 0; most -= 1) {
     const asked = partiesFor(names, known, me, most);
-    const texts = [questionOf(objects, [{ look: '/' }], asked, { mark }),
-      ...changes.length > 0 ? [questionOf(objects, changes, asked, { mark, lists: then })] : []];
+    const look = (those) => questionOf(those, [{ look: '/' }], asked, { mark });
+    const texts = changes.length === 0 ? [look(objects)]
+      : [look(objects.filter((one) => !isAlike(one))),
+        questionOf(objects, changes, asked, { mark, lists: then })];
     if (!isTooMuch(asked, all, texts)) return { asked, texts };
     // Of those who are known there is no smaller question.
     if (asked.isExact) break;
