@@ -19,7 +19,7 @@ from rooms_services import scgi
 from rooms_services.room.answers import Answer, Stop
 from rooms_services.room import turns
 from rooms_services.room.room import Reply, Room
-from rooms_services.earlier import gate, judge, judging, nights, whole
+from rooms_services.earlier import copies, gate, judge, judging, nights, whole
 from rooms_services.earlier.gate import Opened
 
 NIGHT = "2026-11-01.030000"
@@ -453,6 +453,33 @@ class Asked(Over):
                                 "TARGET": f"/earlier/{NIGHT}/doc/letters/reply"})
         self.assertEqual(stopped.exception.why, "no-room")
         self.assertEqual(self.opened, [])
+
+
+class Places(unittest.TestCase):
+    """Of nights that are open, while a disk of backups hangs."""
+
+    def test_who_hangs_keeps_none(self) -> None:
+        kept = copies.Copies()
+        for number in range(copies.MOST):
+            kept._open["slow", str(number)] = copies.Copy(10, (0, number))
+        with self.assertRaises(copies.Ends):
+            kept._make_place(10)
+        for one in kept._open.values():
+            one.began -= 2 * copies.PATIENCE
+        self.assertEqual(kept._make_place(10), [])
+        self.assertEqual(len(kept._open), copies.MOST)
+
+    def test_nor_comes_later(self) -> None:
+        made = copies.Copy(1, (0, 0), began=time.monotonic() - 3 * copies.PATIENCE)
+        room = nights.Nights("office", "F", "/x", "/bin/false", "owners", "")
+        with tempfile.TemporaryDirectory() as folder, \
+                mock.patch.object(copies, "COPIES", folder), \
+                mock.patch.object(copies, "OPEN", f"{folder}/open"), \
+                mock.patch.object(copies, "_copied", lambda *_: "room"):
+            os.mkdir(copies.OPEN)
+            with self.assertRaises(copies.Ends) as ends:
+                copies.Copies()._start(("office", NIGHT), room, "/x", made)
+        self.assertEqual(ends.exception.word, "busy")
 
 
 class Said(unittest.TestCase):

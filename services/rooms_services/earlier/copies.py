@@ -50,12 +50,18 @@ class Copy:
     # Which folder was copied: another one may get its name.
     source: tuple[int, int]
     used: float = field(default_factory=time.monotonic)
+    began: float = field(default_factory=time.monotonic)
     # Set when it is known what came of it, which `said` says then.
     known: threading.Event = field(default_factory=threading.Event)
     said: str = ""
     folder: str = ""
     place: str = ""
     server: commands.Child | None = None
+
+    def is_late(self) -> bool:
+        """Its disk hangs or is too slow, and nobody waits for it any more: it keeps no place, and
+        is never served."""
+        return not self.known.is_set() and time.monotonic() - self.began > 2 * PATIENCE
 
     def is_dead(self) -> bool:
         return self.server is not None and self.server.poll() is not None
@@ -140,7 +146,8 @@ class Copies:
         if megabytes > MEMORY:
             raise Ends("large", f"it needs {megabytes} MB, and all together have {MEMORY} MB")
         out: list[Key] = []
-        rest = sorted(self._open.items(), key=lambda pair: pair[1].used)
+        rest = sorted((pair for pair in self._open.items() if not pair[1].is_late()),
+                      key=lambda pair: pair[1].used)
         while len(rest) >= MOST or sum(one.megabytes for _, one in rest) + megabytes > MEMORY:
             key, first = rest.pop(0)
             if time.monotonic() - first.used < MAY_GO or not first.known.is_set():
@@ -180,6 +187,8 @@ class Copies:
         if disk.f_bavail * disk.f_frsize < (made.megabytes << 19) + SPARE:
             raise Ends("busy", "no space for a copy")
         copied = _copied(room, backup, made.folder)
+        if made.is_late():
+            raise Ends("busy", "its backup was copied too slowly")
         # The program makes the socket, and the judge's group gets to it.
         os.chmod(os.path.dirname(made.place), 0o710)
         made.server = self._starter.submit(self._begin, room, copied, made).result()
