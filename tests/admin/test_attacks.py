@@ -1,6 +1,7 @@
 """What others than root can leave where rooms-admin looks as root, and how it can be kept waiting:
 python3 -m unittest test_attacks."""
 import argparse
+import builtins
 import contextlib
 import dataclasses
 import io
@@ -28,7 +29,7 @@ from rooms_admin.room import health, program, published, server, settings  # noq
 from rooms_admin.passwords import passwords  # noqa: E402
 from rooms_admin.backup import backups, copying  # noqa: E402
 from rooms_admin.lists import dump, records  # noqa: E402
-from rooms_admin.people import handing_over, members  # noqa: E402
+from rooms_admin.people import ended, handing_over, members  # noqa: E402
 from rooms_admin.directory import groups  # noqa: E402
 from rooms_admin.machine_tar import machine  # noqa: E402
 from rooms_admin.check import watched  # noqa: E402
@@ -267,8 +268,7 @@ class Apart(unittest.TestCase):
 class Rests(unittest.TestCase):
     """What a server that rests doesn't wait for."""
 
-    def test_groups_of_a_directory(self) -> None:
-        """A disk of backups that hangs, and somebody who reads slowly what is printed."""
+    def rests(self) -> tuple[list[str], object]:
         did: list[str] = []
 
         @contextlib.contextmanager
@@ -276,6 +276,32 @@ class Rests(unittest.TestCase):
             did.append("stop")
             yield
             did.append("start")
+        return did, rests
+
+    def test_accesses_that_end(self) -> None:
+        """Somebody who reads slowly what is printed."""
+        did, rests = self.rests()
+
+        def sets(*_given: object) -> tuple[int, bytes, str]:
+            did.append("set")
+            return 0, b"", ""
+        with tempfile.TemporaryDirectory() as folder, contextlib.ExitStack() as mocks:
+            room = room_of(folder)
+            end = types.SimpleNamespace(over=False, words=lambda: "read of eve")
+            due = ended.Due(b"/x", ["list:a"], ["list:a"], [typing.cast(typing.Any, end)])
+            task = ended.Run(room, False, None)
+            for module, name, what in (
+                    (server, "at_rest", rests), (server, "state", lambda _room: "active"),
+                    (members, "printed", lambda *_given: b""), (task, "find", lambda _: [due]),
+                    (program, "run", sets),
+                    (builtins, "print", lambda text, **_: did.append(text))):
+                mocks.enter_context(unittest.mock.patch.object(module, name, what))
+            task.all([])
+        self.assertEqual(did, ["stop", "set", "start", "taken back: /x: read of eve"])
+
+    def test_groups_of_a_directory(self) -> None:
+        """The same, and a disk of backups that hangs."""
+        did, rests = self.rests()
 
         def looks(_room: settings.Room) -> None:
             did.append("looks")

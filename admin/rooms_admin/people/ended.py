@@ -3,6 +3,7 @@ import datetime
 import os
 import time
 from collections.abc import Iterable
+from contextlib import ExitStack
 from dataclasses import dataclass, field
 
 from ..host import mail, safe
@@ -50,6 +51,7 @@ class Run:
             self.today = last + A_DAY
         self.waiting = 0
         self.undone: list[str] = []
+        self.done: list[str] = []
 
     def not_done(self, path: bytes, what: str, why: str) -> None:
         self.undone.append(f"not taken back: {names.shown(path)}: {what}: {why}")
@@ -84,7 +86,7 @@ class Run:
         status, out, why = program.run(self.room, ["reset", self.room.file, due.path, "dacl"], text)
         for one in due.ends:
             if status == 0:
-                print(f"taken back: {names.shown(due.path)}: {one.words()}", flush=True)
+                self.done.append(f"taken back: {names.shown(due.path)}: {one.words()}")
             else:
                 self.not_done(due.path, one.words(), why or out.decode(errors="replace").strip())
 
@@ -115,14 +117,23 @@ class Run:
             say(f"no server runs: {len(found)} lists have accesses that are over, and {NEXT}")
             return
         self.undone.clear()
-        with server.at_rest(self.room):
+        left = 0
+        with ExitStack() as after, server.at_rest(self.room):
+            # Whoever reads it slowly doesn't hold the server.
+            after.callback(self.tell_done)
             now = self.find(dump.parsed(members.printed(self.room, "dump").split(b"\n")))
             begun = time.monotonic()
             for number, due in enumerate(sorted(now, key=lambda due: not due.ends)):
                 if time.monotonic() - begun > REST:
-                    say(f"{len(now) - number} lists have accesses that are over, and {NEXT}")
+                    left = len(now) - number
                     break
                 self.set(due)
+        if left:
+            say(f"{left} lists have accesses that are over, and {NEXT}")
+
+    def tell_done(self) -> None:
+        for line in self.done:
+            print(line, flush=True)
 
 
 def last_day(room: Room, tonight: str = "") -> datetime.date | None:
