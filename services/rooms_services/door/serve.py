@@ -109,14 +109,14 @@ class Handler(http.server.BaseHTTPRequestHandler):
         values: list[str] = self.headers.get_all(name, [])
         if len(values) > 1:
             raise Stop(400, "bad-field", f"a field stands twice: {name}")
-        return values[0].strip() if values else ""
+        return values[0].strip(" \t") if values else ""
 
     def _user(self) -> str:
         """As nginx says. Two names would be one of the client's and one of nginx's."""
         names: list[str] = self.headers.get_all("Room-User", [])
-        if len(names) != 1 or not USER.fullmatch(names[0].strip()):
+        if len(names) != 1 or not USER.fullmatch(names[0].strip(" \t")):
             raise Stop(400, "bad-user", "no name of a user")
-        return names[0].strip()
+        return names[0].strip(" \t")
 
     def _refuse_others(self) -> None:
         """A browser sends a saved password with what a page of another site causes. Nobody there
