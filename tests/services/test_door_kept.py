@@ -100,9 +100,15 @@ class InParts(Dated):
         self.add(line("eve", "PUT", "/doc/f/a", 201, 3))
         self.room.denied = {("eve", f"/f/a{in_parts.end_of(number)}", bit)
                             for number in (1, 2) for bit in "rt"}
-        before = self.told("/door/folder/f", "eve"), self.newest("eve")
+        self.lay("a", 0, 0)
+
+        def all_told() -> tuple[object, ...]:
+            self.keeper.catch_up()
+            self.room.seen.clear()
+            return (self.told("/door/folder/f", "eve"), self.newest("eve"), self.room.seen[:])
+        before = all_told()
         self.lay("a", 5000, 7)
-        self.assertEqual((self.told("/door/folder/f", "eve"), self.newest("eve")), before)
+        self.assertEqual(all_told(), before)
         self.assertEqual(self.sizes("alice"), (5007, 5007))
         self.room.denied = {("eve", f"/f/a{in_parts.end_of(1)}", "t")}
         self.assertEqual(self.sizes("eve"), (7, 7))

@@ -20,7 +20,7 @@ from .store import Inside, Newest
 
 MOST = 50
 # Folders that are looked up at once; and parts of documents, of all that are told.
-SOME, MOST_PARTS = 1000, 10_000
+SOME, MOST_PARTS = 1000, 20_000
 
 
 class Latest:

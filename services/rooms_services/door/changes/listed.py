@@ -48,10 +48,10 @@ class Sizes:
         self._step = Step("can", DOCUMENT, self._may)
 
     def ask(self, whole: Node, part: bytes, size: int | None) -> None:
-        if size != 0:
-            node = Node(part, False, whole.above)
-            self._parts[node] = whole, size
-            self._walk.ask(self._step, node)
+        """Of each, whether it is empty or not: else what is asked would tell that."""
+        node = Node(part, False, whole.above)
+        self._parts[node] = whole, size
+        self._walk.ask(self._step, node)
 
     def forget(self, whole: Node) -> None:
         self._sizes[whole] = None
@@ -64,7 +64,8 @@ class Sizes:
 
     def of(self, whole: Node, known: Known) -> Known:
         """Those parts that aren't in use are empty."""
-        return known._replace(size=self._sizes[whole]) if whole in self._sizes else known
+        size = self._sizes.get(whole, 0)
+        return known if size == 0 else known._replace(size=size)
 
 
 class Listed:

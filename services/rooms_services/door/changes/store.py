@@ -418,11 +418,11 @@ class Store:
                     (folder, at, last, most))]
 
     def named(self, folder: int, begin: str, most: int) -> list[tuple[str, int | None]]:
-        """Documents in a folder whose names begin so and go on by digits, with how large they are,
-        as far as they aren't empty."""
+        """Documents in a folder whose names begin so and go on by digits, with how large they
+        are."""
         return list(self._db.execute(
-            "SELECT name, size FROM node WHERE up = ? AND folder = 0 AND name > ? AND name < ? AND "
-            "size IS NOT 0 LIMIT ?", (folder, begin, f"{begin}:", most)))
+            "SELECT name, size FROM node WHERE up = ? AND folder = 0 AND name > ? AND name < ? "
+            "LIMIT ?", (folder, begin, f"{begin}:", most)))
 
     def count(self) -> int:
         return int(self._db.execute("SELECT count(*) FROM node").fetchone()[0])
