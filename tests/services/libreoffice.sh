@@ -23,7 +23,9 @@ start_door office --drive=yes
 at=$((port + 5))
 for who in alice bob carol; do
   printf 'server { listen 127.0.0.1:%d; client_max_body_size 0;
-    location / { proxy_pass http://127.0.0.1:%d; proxy_set_header Host $http_host; proxy_set_header Authorization "Basic %s"; } }\n' \
+    location / {
+      proxy_pass http://127.0.0.1:%d; proxy_set_header Host $http_host;
+      proxy_set_header Authorization "Basic %s"; } }\n' \
     "$at" "$front" "$(printf '%s:%s' "$who" "${who:0:1}" | base64)"
   declare "of_$who=http://127.0.0.1:$at/drive"
   at=$((at + 1))

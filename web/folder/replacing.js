@@ -12,7 +12,8 @@ import { isolated } from '../text/words.js';
 // What can be answered, and how the button looks that replaces it.
 const LOOKS = { exists: 'danger', changed: 'danger', gone: 'primary', left: 'danger' };
 const answersTo = (why) => [
-  ...why === 'gone' || why === 'left' ? [] : [['both', texts.upload.keepBoth, why === 'changed' ? 'primary' : null]],
+  ...why === 'gone' || why === 'left' ? []
+    : [['both', texts.upload.keepBoth, why === 'changed' ? 'primary' : null]],
   ['replace', texts.upload.taken[why].replace, LOOKS[why]]];
 
 // Beside the question: who could have done it, and what is there now.

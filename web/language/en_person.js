@@ -17,8 +17,8 @@ export const EN_PERSON = {
   changedAt: (place) => `Somebody else changed ${place} meanwhile.`,
   takeOut: 'Take out everywhere',
   takeOutTitle: (name) => `Take ${name} out?`,
-  takeOutSays: (name) => `The lines of ${name} at the ticked places go. What a group, a folder above `
-    + 'or a line at another place gives stays.',
+  takeOutSays: (name) => `The lines of ${name} at the ticked places go. What a group, a folder `
+    + 'above or a line at another place gives stays.',
   notMine: (name, places) => `${name} also has lines at ${and(places)}, where you may not change `
     + 'who has access.',
   takeThemOut: 'Take out',

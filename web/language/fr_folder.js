@@ -213,8 +213,8 @@ export const FR_UPLOAD = {
     },
     left: {
       title: 'Supprimer les restes d’un envoi ?',
-      text: (name) => `Un envoi de ${name} a été interrompu, et ses parties sont encore là, avec un `
-        + 'numéro après ce nom. Sans les autres, elles ne servent à rien.',
+      text: (name) => `Un envoi de ${name} a été interrompu, et ses parties sont encore là, avec `
+        + 'un numéro après ce nom. Sans les autres, elles ne servent à rien.',
       replace: 'Les supprimer et envoyer',
     },
   },

@@ -93,7 +93,8 @@ class Coming {
     const mine = this.looks;
     this.send.disabled = true;
     const drawn = steps.length === 0 ? { told: [], isKnown: false }
-      : await outcomeAt(this.state, steps).then((one) => ({ told: this.toldOf(one), isKnown: true }),
+      : await outcomeAt(this.state, steps).then(
+        (one) => ({ told: this.toldOf(one), isKnown: true }),
         (fault) => ({ told: this.unanswered(fault, steps), isKnown: false }));
     if (mine !== this.looks) return;
     this.shown.replaceChildren(element('div', { 'aria-busy': 'false', class: 'outcome' },
@@ -113,8 +114,8 @@ class Coming {
 }
 
 // A dialog with a tick for each place. 'stepsNow' says which there are, [{path, before, next,
-// words}], and 'sentence' what is said of them; 'moreOf' is as above, and 'beside' makes what stands
-// above the places, given what draws all anew. Returns the steps that were ticked, or null.
+// words}], and 'sentence' what is said of them; 'moreOf' is as above, and 'beside' makes what
+// stands above the places, given what draws all anew. Returns the steps that were ticked, or null.
 export function askPlaces(state, { title, send, sentence, stepsNow, moreOf, beside }) {
   const off = new Set();
   const press = button(send, () => {}, { class: 'primary', disabled: true });

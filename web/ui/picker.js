@@ -124,8 +124,8 @@ function choiceList(input, known, picks) {
 }
 
 // 'taken' are those who have access already, as they are at each key. 'onPick' is called with {who,
-// isGroup, sure}, and with what a 'quick' pick gives beside these: {words, gives}. 'isOfPeople' says
-// that no groups are offered.
+// isGroup, sure}, and with what a 'quick' pick gives beside these: {words, gives}. 'isOfPeople'
+// says that no groups are offered.
 export function picker(known, taken, onPick,
   { quick = null, label = texts.picker.add, isOfPeople = false } = {}) {
   const all = knownNames(known).filter((one) => !isOfPeople || !one.isGroup);

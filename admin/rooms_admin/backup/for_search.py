@@ -15,8 +15,8 @@ from ..room.published import ROOT
 from ..room.settings import Room
 from ..cli.report import Interrupted, Stop
 
-# Each room has a folder there, of this user; and while a night reads its copy, another one where who
-# keeps texts doesn't get to: a copy has members and records too.
+# Each room has a folder there, of this user; and while a night reads its copy, another one where
+# who keeps texts doesn't get to: a copy has members and records too.
 PLACE, COPIES, USER = "/var/cache/rooms-texts", "/var/cache/rooms-texts-copies", "rooms-texts"
 # In a room's folder: what has no text, and why.
 LIST = "without.csv"
