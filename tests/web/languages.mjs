@@ -66,7 +66,7 @@ const OTHERS = {
   'access.thenCan many': [...counts, null], 'access.nowCan many': [...counts, null],
   'access.nowCan members': [[], ...names], 'outcome.keepsMore places': counts,
   'outcome.changesMore places': counts, 'outcome.apart places': counts,
-  'person.theirsThere words': ['Wox'], 'access.goes from': ['Fex'], 'access.goes to': ['Tox'], 'lists.and words': names,
+  'person.theirsThere words': ['Wox'], 'outcome.withMore words': ['Wox'], 'access.goes from': ['Fex'], 'access.goes to': ['Tox'], 'lists.and words': names,
   'warnings.noPassage place': ['Pqx', null],
   'warnings.noPassageForAll place': ['Pqx', null], 'warnings.passageUnread place': ['Pqx', null],
   'warnings.passageDepends place': ['Pqx', null], 'advanced.byLine place': ['Pqx', null],

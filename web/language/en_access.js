@@ -200,6 +200,7 @@ export const EN_OUTCOME = {
   at: (words, path) => `${words}, at ${path}`,
   atInside: (words, path) => `${words}, with documents in ${path}`,
   keepsAt: (words, path) => `${words}, at ${path}, by lines there`,
+  withMore: (words) => `${words}, and has some more rights`,
   moreRights: 'some more rights',
   otherRights: 'not the same rights as now',
   // 'isNew' says that they had no access before.

@@ -217,6 +217,7 @@ export const FR_OUTCOME = {
   at: (words, path) => `${words}, à ${path}`,
   atInside: (words, path) => `${words}, pour des documents dans ${path}`,
   keepsAt: (words, path) => `${words}, à ${path}, par des lignes qui s’y trouvent`,
+  withMore: (words) => `${words}, et a quelques droits de plus`,
   moreRights: 'quelques droits de plus',
   otherRights: 'pas les mêmes droits que maintenant',
   removals: (gained, lost, isNew) => [

@@ -30,7 +30,8 @@ function sameLevelWords({ from, more, gained, lost, isRemoval }) {
   if (!isRemoval && (!more || gained.length === 0)) {
     return more ? texts.outcome.moreRights : texts.outcome.otherRights;
   }
-  return texts.outcome.removals(gained, lost, from === 'none');
+  const words = texts.outcome.removals(gained, lost, from === 'none');
+  return isRemoval ? words : texts.outcome.withMore(words);
 }
 
 // Of a person whose groups aren't known, no more can be said than what this list gives.
@@ -98,7 +99,9 @@ const plain = (look, head, words, rest = []) => ({ look, head, words, names: [],
 
 // Who gains and who loses: [{look, head, words, names}].
 export function saidLines({ known, kind }, outcome, subject) {
-  const { changes, gains, losses, below, isAll, kept, owners, losers, perhaps } = outcome;
+  const { changes, gains, losses, below, kept, owners, losers, perhaps } = outcome;
+  // Of what wasn't looked at, or isn't known, nothing is said.
+  const isAll = outcome.isAll && outcome.isKnown;
   // What the sentence above says already isn't said twice.
   const isNamed = ({ user }) => subjectsOf(subject)
     .some((one) => !one.isGroup && one.who === user);
@@ -120,7 +123,6 @@ export function saidLines({ known, kind }, outcome, subject) {
       texts.outcome.keepsMore(moreKept), stays(kept.slice(MOST_PLACES))),
     more > 0 && plain('loss', texts.outcome.heads.also, texts.outcome.changesMore(more),
       deeper(below.slice(MOST_PLACES))),
-    // Of what wasn't looked at nothing is said.
     isAll && isNone && plain('same', texts.outcome.nobody, texts.outcome.nobodyNow),
     isAll && !isNone && isHarmless && plain('same', texts.outcome.nobodyLoses,
       texts.outcome.anything),

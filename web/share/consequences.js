@@ -34,7 +34,9 @@ function besideOf(said, opening, nodes) {
   const folders = open.map(({ path }) => ({ path, kind: 'folder', text: '' }));
   const inside = open.map(({ path }) => (
     { path: imagined(path).other, kind: 'document', text: '' }));
-  return withChanges(changesBelow(said, [...folders, ...inside, ...nodes], []), (changes, { path }) =>
+  const found = changesBelow(said, [...folders, ...inside, ...nodes], [], '/',
+    open.map(({ path }) => path));
+  return withChanges(found, (changes, { path }) =>
     changes.filter(({ to }) => to !== 'pass' || !open.some((one) => one.path === path)));
 }
 

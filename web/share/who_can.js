@@ -43,10 +43,10 @@ export const changesAt = (said, place) => toTell(said.changing.map((caller) =>
 
 const isIn = (path, folder) => path.startsWith(folder === '/' ? '/' : `${folder}/`);
 
-// What of a change further down isn't said by that of the nearest place above: the level, or what
-// may be removed.
+// What of a change further down isn't said by that of the nearest place above: the level, what may
+// be removed, or that something is lost.
 function isNews(one, above) {
-  if (above === undefined) return true;
+  if (above === undefined || (above.more && !one.more)) return true;
   const isSaid = (words) => one[words].every((word) =>
     above[words].includes(word === 'it' ? 'inside' : word));
   const isLost = isRemover(above.from) && !isRemover(above.to);
@@ -55,16 +55,16 @@ function isNews(one, above) {
 }
 
 // Where something differs further down, other than at the nearest place above of which it is told:
-// [{path, kind, changes}]. 'nodes' come from the top down, and 'changes' are those at the top.
-export function changesBelow(said, nodes, changes, path = '/') {
+// [{path, kind, changes}]. 'nodes' come from the top down, and 'changes' are those at the top. That
+// somebody passes isn't told where that is offered, at the paths of 'offered'.
+export function changesBelow(said, nodes, changes, path = '/', offered = []) {
   const seen = new Map(changes.map((one) => [one.id, [{ path, ...one }]]));
   const nearest = (at, { id }) => (seen.get(id) ?? []).findLast((one) => isIn(at, one.path));
   return nodes.filter(({ text }) => text !== FOLLOWS && text !== null).map((node) => ({
     path: node.path, kind: node.kind,
     changes: changesAt(said, node).filter((one) => {
       const isTold = isNews(one, nearest(node.path, one));
-      // That somebody passes isn't always told.
-      if (isTold && one.to !== 'pass') {
+      if (isTold && !(one.to === 'pass' && offered.includes(node.path))) {
         seen.set(one.id, [...seen.get(one.id) ?? [], { path: node.path, ...one }]);
       }
       return isTold;
