@@ -56,10 +56,10 @@ printed 'and shown' list:a U:fdF:EVERYONE@:rx
 for name in scan scan~rooms-part-0001; do
   holds "a part of a document ($name)" [ "$(at_socket alice PUT "doc/letters/$name" x)" = 201 ]
 done
-sets $'list:ap\nA:fd:alice:rxtc' /letters/scan
+sets $'list:p\nA::alice:rxtc' /letters/scan
 says 'a document in parts' 2 'not set: /letters/scan is kept in parts'
 stops_are 'stops nothing' 0
-sets $'list:ap\nA:fd:alice:rxtc' /letters/scan~rooms-part-0001 --dry-run
+sets $'list:p\nA::alice:rxtc' /letters/scan~rooms-part-0001 --dry-run
 ended_well 'one of them alone, by its name'
 
 # What can't be is refused before anything stops.
