@@ -3,6 +3,7 @@ are set, its owner changes. Nobody comes between. A kill in the middle leaves no
 rights than before or after, and the same request, sent again, does the rest."""
 import json
 from collections.abc import Collection, Iterator
+from itertools import chain
 
 from rooms_admin.room import in_parts
 
@@ -33,7 +34,7 @@ def remove(ask: Asks, names: Names, rest: Rest | None = None) -> Reply:
     count = large.count_of(ask, names, rest)
     if count and _may_go(ask, names):
         used = _used(ask, names, count)
-        for number in large.resting(_from_the_last(count), rest):
+        for number in large.resting(_all_of(ask, names, count, used), rest):
             place = large.part(names, number)
             if ask(about("DELETE", "object", place)).status != 204 and number in used:
                 ask(about("PUT", "doc", place))
@@ -68,7 +69,7 @@ def move(ask: Asks, names: Names, to: Names, rest: Rest | None = None) -> Reply:
     large.refuse_long_name(to)
     used = _used(ask, names, count)
     moved: list[int] = []
-    for number in large.resting((*_from_the_last(count), 0), rest):
+    for number in large.resting(chain(_all_of(ask, names, count, used), [0]), rest):
         reply = ask(moving(_place(names, number), _place(to, number)))
         if reply.status == 204:
             moved.append(number)
@@ -90,6 +91,14 @@ def _used(ask: Asks, names: Names, count: int) -> Collection[int]:
     return {0, *(found.numbers if found else ())}
 
 
+def _all_of(ask: Asks, names: Names, count: int, used: Collection[int]) -> Iterator[int]:
+    """From the last on, also what it consists of behind a gap that somebody made: a list that is
+    set reaches all of its bytes."""
+    for number in sorted({*range(1, count + 1), *used} - {0}, reverse=True):
+        if number <= count or large.is_there(ask, large.part(names, number)):
+            yield number
+
+
 def _place(names: Names, number: int) -> Names:
     return large.part(names, number) if number else names
 
@@ -108,7 +117,8 @@ def set_at_all(ask: Asks, route: str, names: Names, body: bytes, rest: Rest | No
     right = "o" if route == "attr" else "C"
     count = large.count_of(ask, names, rest)
     if count and _may(ask, names, right):
-        for number in large.resting(_from_the_last(count), rest):
+        used = _used(ask, names, count)
+        for number in large.resting(_all_of(ask, names, count, used), rest):
             place = large.part(names, number)
             if _may(ask, place, right):
                 reply = ask(about("PUT", route, place, body=body))
