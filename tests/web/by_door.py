@@ -173,7 +173,7 @@ class ByDoor:
             alice.texts('.said')[0], alice.texts('.said')
         alice.press('Not kim')
         alice.until(lambda: 'yan and lea can then' in alice.texts('.said')[0], 'the two')
-        assert 'Let yan and lea pass through “All documents” and “letters”' in \
+        assert 'Let lea and yan pass through “All documents” and “letters”' in \
             alice.texts('.adding')[0], alice.texts('.adding')
         alice.until(lambda: alice.script(
             "return !document.querySelector('.adding .primary').disabled"), 'Share')
@@ -324,7 +324,8 @@ class ByDoor:
         alice.until(lambda: alice.all('.holders'), 'the panel')
         alice.write('.picker input', 'xia')
         alice.press_choice('xia as a person')
-        alice.says(away, css='.adding .looking', patience=60)
+        alice.says('It can’t be said now what would come of this', css='.adding .outcome',
+                   patience=60)
         told = alice.texts('.adding')[0]
         assert 'xia can then read' in told and 'obody' not in told, told
         asked = self.requests()[before:]

@@ -44,7 +44,8 @@ export class Model {
 
   fill(one) {
     const folder = one.path === '/' ? null : this.objects.get(above(one.path));
-    const isLinked = folder !== null && !one.protect && folder.auto;
+    // What was made in a folder has what that passed down then.
+    const isLinked = folder !== null && !one.protect && (folder.auto || one.isNew === true);
     one.grey = isLinked ? folder.full.flatMap((entry) => inherited(entry, one.kind))
       : one.grey ?? [];
     one.full = [...one.own, ...one.grey];

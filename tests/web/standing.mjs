@@ -38,7 +38,8 @@ function objectOf({ word, rest, behind, body }) {
   const list = follows || body[0] === 'unread' ? { auto: true, protect: false, own: [], grey: [] }
     : listIn(body);
   return { path: behind(2), kind, owner: rest[0] === '?' ? '' : rest[0],
-    group: rest[1] === '?' ? '' : rest[1], ...list, isUnread: body[0] === 'unread' };
+    group: rest[1] === '?' ? '' : rest[1], ...list, isUnread: body[0] === 'unread',
+    isNew: follows };
 }
 
 const above = (path) => path.slice(0, path.lastIndexOf('/')) || '/';
@@ -81,6 +82,7 @@ function changed(model, changes) {
       const one = objectOf(change);
       model.objects.set(one.path, { ...one });
       model.fill(model.objects.get(one.path));
+      model.objects.get(one.path).isNew = false;
     }
   }
   return model;
@@ -123,6 +125,11 @@ export function rowsOf(text) {
   const parts = read(text);
   const isObject = ({ word }) => word === 'folder' || word === 'document';
   const before = new Model(parts.filter(isObject).map(objectOf));
+  for (const one of before.objects.values()) {
+    // A folder that was made is as the one that it was made in.
+    if (one.isNew && one.path !== '/') one.auto = before.objects.get(above(one.path)).auto;
+    one.isNew = false;
+  }
   const changes = parts.filter(({ word }) =>
     ['set', 'move', 'folder+', 'document+'].includes(word));
   const looks = parts.filter(({ word }) => word === 'look').map(({ behind }) => behind(0));

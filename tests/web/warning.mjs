@@ -75,7 +75,7 @@ for (const [wanted, ...entries] of [
   ['no', 'D::alice:C', 'A::alice:C'], ['no', 'D::EVERYONE@:C', 'A::alice:C'],
   ['no', 'D::OWNER@:C', 'A:g:staff:C'], ['perhaps', 'D:g:staff:C', 'A::alice:C'],
   ['perhaps', 'D::GROUP@:C', 'A::OWNER@:C'], ['yes', 'A::alice:C', 'D:g:staff:C'],
-  ['yes', 'D:i:EVERYONE@:C', 'A::alice:C'], ['yes', 'D::EVERYONE@:w', 'A::alice:C'],
+  ['yes', 'D:fi:EVERYONE@:C', 'A::alice:C'], ['yes', 'D::EVERYONE@:w', 'A::alice:C'],
   ['yes', 'A:g:staff:C', 'D:g:staff:C', 'A::alice:C'],
   ['perhaps', 'A:g:staff:C', 'D:g:sales:C', 'A::alice:C'],
   ['yes', 'D::ANONYMOUS@:C', 'D::bob:C', 'A::EVERYONE@:C'],
