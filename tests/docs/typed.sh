@@ -498,6 +498,8 @@ for text in './rooms_' 'cp -a /mnt' 'do rooms-admin restore' reload-or-restart m
   'dpkg --compare' '--timeout 600'; do
   block_of docs/backup "$text"
 done >>typed
+# What would come of a list, by last night's: docs/pasted-back pastes it.
+block_of docs/lists 'rooms-admin would set' >>typed
 # Blocks of several machines: install/machines, install/new-machine and admin/standby paste them.
 for text in 'certificate --machine' 'add --behind' 'add --on' \
   -mmin 'start "rooms-nightly@' 'now "rooms@$room"'; do
