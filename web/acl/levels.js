@@ -142,6 +142,10 @@ export function readLevels(list, kind) {
   };
 }
 
+// The letters that a level may have, of those that requests ask for.
+export const lettersIn = (level) => (level === 'none' ? ''
+  : asked(LEVEL_FORMS.folder[level].flat().map(([, mask]) => mask).join('')));
+
 // The entries that a level is.
 export const entriesOf = (level, who, group, kind) => LEVEL_FORMS[kind][level][0].map(
   ([flags, mask]) => (

@@ -38,11 +38,12 @@ function sameLevelWords({ from, more, gained, lost, isRemoval }) {
 const isAllKnown = ({ user, isExact, isPerhaps }) => user === null || isExact || isPerhaps;
 
 function changeWords(change, kind) {
-  const { from, to, more } = change;
+  const { from, to, more, isBeyond } = change;
   if (from === to) return sameLevelWords(change);
   const removals = beyondLevel(change);
-  if (more) return texts.outcome.gains(to, kind, removals);
-  if (to !== 'none') return texts.outcome.loses(from, to, kind, removals);
+  const whole = (words) => (isBeyond ? texts.outcome.withMore(words) : words);
+  if (more) return whole(texts.outcome.gains(to, kind, removals));
+  if (to !== 'none') return whole(texts.outcome.loses(from, to, kind, removals));
   const say = isAllKnown(change) ? texts.outcome.losesAll : texts.outcome.losesByList;
   return say(from, kind);
 }
@@ -106,7 +107,7 @@ export function saidLines({ known, kind }, outcome, subject) {
   const isNamed = ({ user }) => subjectsOf(subject)
     .some((one) => !one.isGroup && one.who === user);
   const isSaid = gains.every((one) => isNamed(one) && one.to === subject.level
-    && beyondLevel(one).length === 0);
+    && beyondLevel(one).length === 0 && !one.isBeyond);
   const deeper = (those) => those.flatMap((one) =>
     changeLines(one.changes, one.kind, known, one.path));
   const stays = (those) => those.flatMap((one) => keptLines(one, known));

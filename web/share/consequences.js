@@ -72,7 +72,8 @@ function linesIn(list, after, kind) {
 // What is sure, and what isn't since it isn't known who is in which groups.
 export const surely = (changes) => changes.filter(({ isPerhaps, owns }) => !isPerhaps || owns);
 export const perhapsIn = (changes) => changes.filter(({ isPerhaps, owns }) => isPerhaps && !owns);
-export const withChanges = (places, of) => places.map((one) => ({ ...one, changes: of(one.changes, one) }))
+export const withChanges = (places, of) => places
+  .map((one) => ({ ...one, changes: of(one.changes, one) }))
   .filter((one) => one.changes.length > 0);
 
 // {after, gaining, opening}: what can be said of a list before anything further down is seen.

@@ -1,6 +1,7 @@
 // What one caller can do at places, by what the program answered. Nothing here draws or asks.
 
 import { ANY_OTHER } from '../acl/callers.js';
+import { lettersIn } from '../acl/levels.js';
 import { UNNAMED, imagined } from '../acl/question.js';
 import { texts } from '../language/language.js';
 import { parentOf } from '../net/api.js';
@@ -12,11 +13,14 @@ export const callerOf = ({ callers, asked }, user) => callers.find((one) => one.
   one.user === null && one.key === ANY_OTHER);
 
 // What somebody can do at an object, in words: also what they may remove beyond their level.
-function extentWords({ level, it, inside }, kind) {
+function extentWords({ level, it, inside, all }, kind) {
   const isWhole = ['remove', 'manage'].includes(level);
   const removals = isWhole ? [] : [it && 'it', inside && 'inside'].filter(Boolean);
-  return removals.length > 0 && ['none', 'pass'].includes(level)
+  const words = removals.length > 0 && ['none', 'pass'].includes(level)
     ? texts.outcome.keepsRemoving(removals) : texts.outcome.keeps(level, kind, removals);
+  const letters = lettersIn(level);
+  const isBeyond = all.some(({ mask }) => [...mask].some((one) => !letters.includes(one)));
+  return isBeyond ? texts.outcome.withMore(words) : words;
 }
 
 const isBelow = (path, top) => path !== top && path.startsWith(top === '/' ? '/' : `${top}/`);

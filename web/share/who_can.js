@@ -3,7 +3,7 @@
 
 import { AFTER, BEFORE } from '../acl/answer.js';
 import { toTell } from '../acl/callers.js';
-import { RANKS } from '../acl/levels.js';
+import { RANKS, lettersIn } from '../acl/levels.js';
 import { FOLLOWS, UNNAMED } from '../acl/question.js';
 
 const rank = (level) => RANKS.indexOf(level);
@@ -19,16 +19,19 @@ const lacking = (all, others, sign) => all.flatMap(({ mask, removes }, at) => {
 });
 
 // How a caller's rights at an object differ: {caller, says, from, to, more, gained, lost,
-// isRemoval}, or null. 'more' is false for whoever also loses something. 'gained' and 'lost' say
-// what they may then remove or no longer by words of REMOVALS, and 'isRemoval' that nothing else
-// differs. 'says' has all of it as words.
+// isRemoval, isBeyond}, or null. 'more' is false for whoever also loses something. 'gained' and
+// 'lost' say what they may then remove or no longer by words of REMOVALS, 'isRemoval' that nothing
+// else differs, and 'isBeyond' that more is gained than the level has, as by lists that somebody
+// wrote by hand. 'says' has all of it as words.
 function differenceAt(said, { path, kind }, caller) {
   const [had, has] = [BEFORE, AFTER].map((side) => said.extentAt(path, kind, caller, side));
   if (had === null || has === null) return null;
   const says = new Set([...lacking(has.all, had.all, '+'), ...lacking(had.all, has.all, '-')]);
   if (says.size === 0) return null;
   const [from, to] = [had.level, has.level];
+  const letters = lettersIn(to);
   return { caller, says, from, to,
+    isBeyond: [...says].some((one) => /^\+\d.$/.test(one) && !letters.includes(one.at(-1))),
     more: ![...says].some((one) => one.startsWith('-')) && rank(to) >= rank(from),
     isRemoval: from === to && [...says].every((one) => one.endsWith('removes')),
     gained: REMOVALS.filter((one) => has[one] && !had[one]),
@@ -46,7 +49,8 @@ const isIn = (path, folder) => path.startsWith(folder === '/' ? '/' : `${folder}
 // What of a change further down isn't said by that of the nearest place above: the level, what may
 // be removed, or that something is lost.
 function isNews(one, above) {
-  if (above === undefined || (above.more && !one.more)) return true;
+  if (above === undefined || (above.more && !one.more)
+    || (one.isBeyond && !above.isBeyond)) return true;
   const isSaid = (words) => one[words].every((word) =>
     above[words].includes(word === 'it' ? 'inside' : word));
   const isLost = isRemover(above.from) && !isRemover(above.to);
