@@ -7,7 +7,6 @@ from fake_room import Ends, Path, Said
 from over import Over
 from rooms_admin.room import in_parts
 from rooms_services.door.large import removal
-from rooms_services.room.answers import SENDING
 
 
 # The tag of no objects.
@@ -101,8 +100,8 @@ class Removal(Over):
 
     def test_so_long(self) -> None:
         """Others have their turn in between: what is left is told."""
-        self.addCleanup(setattr, removal, "SENDING", SENDING)
-        setattr(removal, "SENDING", -1.0)
+        self.addCleanup(setattr, removal, "SECONDS", removal.SECONDS)
+        setattr(removal, "SECONDS", -1.0)
         self.assertEqual(self.remove("g"), (200, [{"left": 4, "tag": self.seen("g")}]))
         self.assertEqual(self.left()[-4:], ["f/g", "f/g/c", "f/g/h", "f/g/h/d"])
 

@@ -7,7 +7,7 @@ asked sees how far it is, and stops it by going away."""
 import time
 from collections.abc import Iterator
 
-from ...room.answers import SENDING, Answer, Stop, written
+from ...room.answers import Answer, Stop, written
 from ...room.paths import Names
 from ...room.room import Ask, Reply, Room
 from ..folders.goes import Goes, tag_of_all
@@ -17,6 +17,8 @@ from . import together
 from .held import HELD
 
 LINES = "application/x-ndjson"
+# A busy disk takes ten milliseconds for one; then others have their turn.
+SECONDS = 120.0
 
 
 def _line(told: dict[str, object]) -> bytes:
@@ -48,7 +50,7 @@ class Removal:
                 *(node for node in reversed(self.goes.found) if node not in unseen)]
 
     def _lines(self) -> Iterator[bytes]:
-        left, until = self._in_order()[::-1], time.monotonic() + SENDING
+        left, until = self._in_order()[::-1], time.monotonic() + SECONDS
         fault: dict[str, object] = {}
         try:
             while left and not fault and time.monotonic() < until:
