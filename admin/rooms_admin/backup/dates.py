@@ -25,6 +25,8 @@ _LIST, _OF_DOOR = (os.path.join(_HERE, name) for name in ("objects_of_copy.py",
                                                           "dates_of_door.py"))
 # In a backup; and how many bytes that has at most.
 KEPT, _MOST = "dates", 64 << 20
+# The door's own file; and the group of a process that is to have none.
+_STORE, _NO_GROUP = "dates.db", 65534
 
 
 def _reader(room: Room) -> int | None:
@@ -105,20 +107,30 @@ def keep(room: Room, folder: str) -> str:
     """Puts what the door knows into a backup. Who made a change isn't in it: so whose name is
     forgotten doesn't come back. Returns what hindered that."""
     reader = _reader(room)
-    file = f"{ROOT}{CHANGES}/{room.name}/dates.db"
-    if reader is None or not os.path.lexists(file):
+    above = f"{ROOT}{CHANGES}/{room.name}"
+    if reader is None or not os.path.lexists(f"{above}/{_STORE}"):
         return ""
-    ours = os.geteuid() == reader
-    status, said = commands.bounded([
-        *([] if ours else ["setpriv", f"--reuid={reader}", f"--regid={reader}", "--clear-groups"]),
-        sys.executable, "-IB", _OF_DOOR, file], _MOST, sys.stderr.fileno(), ())
     try:
-        if status != 0:
-            return f"{folder} has no dates of documents: status {status}"
-        safe.put_file(os.path.join(folder, KEPT), said, 0o600)
-        return ""
-    except OSError as fault:
-        return f"{folder} has no dates of documents: {fault.strerror}"
+        said, fault = _told_by_door(reader, above)
+        if not fault:
+            safe.put_file(os.path.join(folder, KEPT), said, 0o600)
+    except OSError as why:
+        fault = why.strerror or str(why)
+    return f"{folder} has no dates of documents: {fault}" if fault else ""
+
+
+def _told_by_door(reader: int, above: str) -> tuple[bytes, str]:
+    """What the helper prints as the door's user, and what it says of faults."""
+    who = None if os.geteuid() == reader else commands.Who(reader, _NO_GROUP)
+    with commands.started([sys.executable, "-IB", _OF_DOOR, _STORE], program.limits(0), who,
+                          stdin=commands.NOTHING, cwd=above) as child:
+        assert child.stdout and child.stderr
+        said = child.stdout.read(_MOST + 1)
+        child.stdout.close()
+        fault = child.stderr.read(1000).decode(errors="replace").strip()
+    if len(said) > _MOST:
+        return b"", f"more than {_MOST >> 20} MB"
+    return said, "" if child.returncode == 0 else fault or f"status {child.returncode}"
 
 
 def _kept(backup: str) -> bytes:
