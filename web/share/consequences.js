@@ -147,6 +147,7 @@ export async function followOutcome(state, next, subject, isWanted, draw) {
   openedBy(state, near.opening);
   await looking.follow(async (isBusy) => {
     const outcome = await outcomeOf(state, next, subject, near);
-    if (isWanted()) draw(outcome, isBusy);
+    // What is said may want more to be looked at.
+    if (isWanted()) draw(outcome, isBusy || looking.isBusy);
   }, isWanted);
 }
