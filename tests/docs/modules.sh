@@ -135,5 +135,5 @@ sed -n '/^[^#]/s/^[^:]*: //p' "$here/parts.txt" | tr ' ' '\n' | sort -u >named
 all_parts | sort >there
 same 'each part is named, and is there' named there
 parts_for "$repo/web/acl/entries.js" >got
-echo ' web/levels web/style web/page web/sharing docs/modules docs/scripts' >wanted
+echo ' web/judged web/levels web/style web/page web/sharing docs/modules docs/scripts' >wanted
 same 'the parts of a module' got wanted
