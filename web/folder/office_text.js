@@ -1,5 +1,6 @@
 // The text of a document of Word, Excel, PowerPoint or LibreOffice, without its looks. It is a ZIP
-// with parts in XML, which are read here: no script of it runs, and nothing of it is fetched.
+// with parts in XML, which are read here: no script of it runs, and nothing of it is fetched. What
+// is wrong with it isn't told: there is no text.
 
 // What one document may unpack to.
 const MOST = 16 * 1048576;
@@ -18,7 +19,7 @@ function partsOf(bytes) {
   const view = new DataView(bytes);
   let end = view.byteLength - 22;
   while (end >= 0 && view.getUint32(end, true) !== 0x06054b50) end -= 1;
-  if (end < 0) throw new RangeError('it is no ZIP');
+  if (end < 0) throw new RangeError();
   const parts = [];
   let at = view.getUint32(end + 16, true);
   for (let left = view.getUint16(end + 10, true); left > 0; left -= 1) {
@@ -44,7 +45,7 @@ async function* unpacked(bytes, { method, size, at }, budget) {
     const { done, value } = await reader.read();
     if (done) return;
     budget.left -= value.length;
-    if (budget.left < 0) throw new RangeError('it is too long');
+    if (budget.left < 0) throw new RangeError();
     yield value;
   }
 }
@@ -55,7 +56,7 @@ async function xmlOf(bytes, part, budget) {
   const text = new TextDecoder().decode(await new Blob(pieces).arrayBuffer());
   const { documentElement: top } = new DOMParser().parseFromString(text, 'application/xml');
   if (top.querySelector('parsererror') || top.localName === 'parsererror') {
-    throw new SyntaxError('no XML');
+    throw new SyntaxError();
   }
   return top;
 }
