@@ -3,6 +3,7 @@
 import os
 import shutil
 import time
+import traceback
 
 from selenium import webdriver
 from selenium.common.exceptions import StaleElementReferenceException
@@ -108,6 +109,11 @@ class Browser:
         # A list may be drawn anew after the button is found and before it is clicked.
         self.until(lambda: self.click(self.button(words, within)), words)
 
+    def unfold(self, words):
+        """Opens what is folded below these words."""
+        self.until(lambda: next((self.click(one) for one in self.all('summary')
+                                 if one.text == words), False), words)
+
     def press_choice(self, words):
         """The choice below a field that has these words."""
         self.until(lambda: self.script("""
@@ -202,6 +208,12 @@ class Browser:
         self.driver.save_screenshot(path)
 
 
+def place_of(fault):
+    """The line of a play that failed."""
+    last = traceback.extract_tb(fault.__traceback__)[-1]
+    return f'{os.path.basename(last.filename)}:{last.lineno} {last.line}'
+
+
 class Checks:
     """Tells each check on a line of its own, which the case counts."""
 
@@ -211,7 +223,7 @@ class Checks:
             act()
         except Exception as fault:  # Each check is told, whatever stopped it.
             words = ' '.join(str(getattr(fault, 'msg', None) or fault).split()) or \
-                type(fault).__name__
+                f'{type(fault).__name__} at {place_of(fault)}'
             print(f'fail\t{name}\t{words[:2400]}', flush=True)
             return
         took = time.monotonic() - began

@@ -150,8 +150,7 @@ class ByDoor:
         # Two questions, each before and after, and whether the way may be opened.
         assert len(asked) < 8, asked
         assert 'Let zoe pass' in alice.texts('.adding')[0], alice.texts('.adding')
-        alice.script("""[...document.querySelectorAll('summary')]
-            .find((one) => one.textContent === 'Exceptions further down').click()""")
+        alice.unfold('Exceptions further down')
         alice.until(lambda: alice.texts('.exceptions a') == ['/letters/2026/letter 7.txt'],
                     'the exception')
         alice.press('Share', '.adding')

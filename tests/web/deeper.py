@@ -198,7 +198,7 @@ class Deeper:
         assert 'left as it is: “/letters/board”' in told, told
         assert 'You may not see who has access to “/letters/shut”' in told, told
         alice.press('Cancel', '.adding')
-        alice.click(alice.one('.sharing-view > details:last-child summary'))
+        alice.unfold('Exceptions further down')
         alice.until(lambda: alice.texts('.exceptions a')
                     == ['/letters/board', '/letters/2026/plan.txt'], 'the exceptions')
         alice.says('You may not see who has access to “/letters/shut”', css='.exceptions')

@@ -40,7 +40,7 @@ class Looking:
         self.alice.script(COUNT, waits, refused)
 
     def unfold(self):
-        self.alice.click(self.alice.one('.sharing-view > details:last-child summary'))
+        self.alice.unfold('Exceptions further down')
 
     def found(self):
         return self.alice.texts('.exceptions a')

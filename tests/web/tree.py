@@ -177,7 +177,8 @@ class Tree:
                                              ".matches") == is_dark, 'this light')
             grounds.append(alice.script(
                 "return getComputedStyle(document.querySelector('.sheet')).backgroundColor"))
-            alice.click(alice.one('.sharing-view > details:last-child summary'))
+            alice.unfold('Exceptions further down')
+            alice.unfold('One person, here and further down')
             assert alice.script(FAINT) == [], alice.script(FAINT)
             self.pick('sales', 'group')
             assert alice.script(FAINT) == [], alice.script(FAINT)
