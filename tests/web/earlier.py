@@ -232,7 +232,7 @@ class Nights:
     def large_ones(self):
         """In parts, then and now: for alice alone, and as that night."""
         alice, whole = self.alice, ('a line of a scan\n' * 130_000)[:2_200_000]
-        for choice, statuses in (('alone', [200, 403, 403]), ('then', [200, 200, 200])):
+        for choice, statuses in (('alone', [200, 403, 403]), ('then', [200, 200, 403])):
             alice.open('#/scans')
             alice.act('Remove', 'scan.txt')
             alice.press('Remove it', 'dialog')

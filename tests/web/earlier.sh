@@ -51,8 +51,11 @@ begin() {
   room_does bob /doc/letters/kept.txt -X PUT --data-binary 'as ever'
   room_does root /folder/scans -X POST
   list_of /scans list:ap "A:fd:alice:$ALL" A:fd:bob:rxwaDtc A:fd:eve:rxtc
+  # Eve reads what comes into the folder, and not this.
+  printf '%s\n' list:p "A::alice:$ALL" A::bob:rxwatc >list.sent
   for part in scan.txt scan.txt~*; do
     room_does bob "/doc/scans/$part" -X PUT --data-binary @"$part"
+    room_does alice "/dacl/scans/$part" -X PUT --data-binary @list.sent
   done
   at_rest keep_night "$one" 1
   room_does bob /doc/letters/tender/offer.txt -X PUT --data-binary 'the better offer'
