@@ -22,7 +22,7 @@ node_says() { # NAME LAST-LINE ARGUMENT ..
 }
 
 node_says 'levels, over the lists of the page and at random' '0 told' "$here/web/node.mjs" \
-  "$here/web/levels.js" page "$here/../docs/lists.md" 20000
+  "$here/web/levels.js" page "$here/../docs/lists.md" 5000
 # Whether a last day is over is the machine's to say, wherever the browser is.
 for zone in UTC America/New_York Asia/Tokyo; do
   TZ=$zone node "$here/web/clock.mjs" page >got 2>&1

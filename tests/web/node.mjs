@@ -1,4 +1,5 @@
 // Plays a script of tests that was made for a browser: node node.mjs SCRIPT PAGE LISTS COUNT
+// The model of a room stands before it.
 // PAGE is a folder with the modules of web, LISTS is docs/lists.md. The status is 1 if
 // something is told.
 import { mkdtempSync, readFileSync, rmSync, writeFileSync } from 'node:fs';
@@ -9,7 +10,8 @@ import { pathToFileURL } from 'node:url';
 const [script, page, lists, count] = process.argv.slice(2);
 const folder = mkdtempSync(join(tmpdir(), 'script-'));
 const file = join(folder, 'script.mjs');
-writeFileSync(file, `export function run() {\n${readFileSync(script, 'utf8')}\n}\n`);
+const model = readFileSync(new URL('model.mjs', import.meta.url), 'utf8').replace(/^export /gm, '');
+writeFileSync(file, `export function run() {\n${model}\n${readFileSync(script, 'utf8')}\n}\n`);
 const { run } = await import(pathToFileURL(file));
 rmSync(folder, { recursive: true });
 const given = { lists: readFileSync(lists, 'utf8'), count: Number(count) };

@@ -1,6 +1,7 @@
 """The play of keys alone, of a full list, of small windows, and of what a screen reader is told."""
 
 import os
+import re
 
 from people import NAMES, people
 from selenium.webdriver.common.keys import Keys
@@ -237,6 +238,9 @@ class Tree:
         """As node plays them, in this browser."""
         with open(f'{HERE}/../../docs/lists.md', encoding='utf-8') as file:
             given = {'lists': file.read(), 'count': 1000}
-        with open(f'{HERE}/levels.js', encoding='utf-8') as file:
-            told = self.alice.driver.execute_async_script(file.read(), given, '')
+        scripts = []
+        for name in ('model.mjs', 'levels.js'):
+            with open(f'{HERE}/{name}', encoding='utf-8') as file:
+                scripts.append(re.sub(r'^export ', '', file.read(), flags=re.MULTILINE))
+        told = self.alice.driver.execute_async_script('\n'.join(scripts), given, '')
         assert told == [], told[:3]
