@@ -9,7 +9,8 @@ import { Model, doorBelow } from './model.mjs';
 
 const [page, rooms] = process.argv.slice(2);
 const module = (name) => import(`${pathToFileURL(resolve(page)).href}/${name}`);
-const [{ Looking }, lists] = await Promise.all(['crawl.js', 'entries.js'].map(module));
+const [{ Looking }, lists, { FOLLOWS }] = await Promise.all(
+  ['crawl.js', 'entries.js', 'question.js'].map(module));
 
 let seed = 3;
 const random = (most) => {
@@ -59,8 +60,10 @@ const alike = (path) => {
 };
 const compare = (what, { nodes, all }) => {
   if (!all) faults.push(`${what}: not all was seen`);
-  for (const { path, list } of nodes) {
+  for (const { path, list, text } of nodes) {
     const mine = lists.printList(list);
+    // A question has the texts, which have to be those of the same moment.
+    if (text !== FOLLOWS && text !== mine) faults.push(`${what}: ${path} is asked with\n${text}`);
     if (path.includes('\u0000')) {
       const lines = mine.split('\n').slice(1).join('\n');
       if (!alike(path).includes(lines)) faults.push(`${what}: nothing at ${path} has\n${mine}`);

@@ -5,7 +5,9 @@
 import { namesOf, parentOf } from './api.js';
 import { differsBelow } from './door.js';
 import { seenBelow } from './seen_below.js';
+import { printList } from '../acl/entries.js';
 import { afterMoving } from '../acl/inherit.js';
+import { FOLLOWS } from '../acl/question.js';
 
 // What was seen is drawn after so many milliseconds for the first time, and then again and again.
 const [SOON, LATER] = [400, 1000];
@@ -54,15 +56,17 @@ export class Looking {
 
   get isOld() { return !this.isBusy && Date.now() - this.began > OLD; }
 
-  // An object has this list now, and what follows it has another one too, as far as it was seen.
+  // An object has this list now, and what follows it has another one too, as far as it was seen:
+  // also the texts, since a question has those of one moment.
   changed(path, list) {
     for (const { nodes } of this.walks.values()) {
       const lists = new Map([[path, list]]);
       for (const node of nodes) {
         const above = lists.get(parentOf(node.path));
-        if (node.path === path) node.list = list;
+        if (node.path === path) Object.assign(node, { list, text: printList(list) });
         else if (above !== undefined && node.list !== null) {
           node.list = { ...node.list, entries: afterMoving(node.list, above, node.kind) };
+          if (node.text !== FOLLOWS) node.text = printList(node.list);
           if (isFolder(node)) lists.set(node.path, node.list);
         }
       }
