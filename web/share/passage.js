@@ -107,10 +107,10 @@ function isNeeded([base, without], caller, nodes) {
 }
 
 // Whether it is known who is in the groups by which somebody may need the line: those that don't
-// pass by themselves.
-const areGroupsKnown = ({ known }, said, path) => (known?.members && !isOld(known.made))
-  || said.callers.filter(({ user, groups }) => user === null && groups.length === 1)
-    .every((caller) => said.at(path, caller)?.mask.includes('x'));
+// pass by themselves. Where members are known, groups alone aren't asked about.
+const areGroupsKnown = ({ known }, said, path) => (said.asked.isExact ? !isOld(known.made)
+  : said.callers.filter(({ user, groups }) => user === null && groups.length === 1)
+    .every((caller) => said.at(path, caller)?.mask.includes('x')));
 
 async function leftoverAt(folder, state, next, subject) {
   const without = folder.list && withoutLine(folder.list, subject);
@@ -122,11 +122,14 @@ async function leftoverAt(folder, state, next, subject) {
   const both = await Promise.all([ask(sets),
     ask([...sets, { set: folder.path, text: printList(without) }])]);
   const meant = both[1].callers.filter(isMeantBy(subject));
-  const isRedundant = meant.every((caller) =>
+  const isRedundant = meant.length > 0 && meant.every((caller) =>
     both[1].at(folder.path, caller)?.mask.includes('x'));
   const places = [...nodes, { path: state.path, kind: state.kind }];
-  if (!isRedundant && meant.some((caller) => isNeeded(both, caller, places))) return null;
-  const isSeen = all && unread.length === 0 && areGroupsKnown(state, both[1], folder.path);
+  const needing = isRedundant ? [] : meant.filter((caller) => isNeeded(both, caller, places));
+  // For those who need it only if they are in a group it is offered, and not ticked.
+  if (needing.some(({ isPerhaps }) => !isPerhaps)) return null;
+  const isSeen = all && unread.length === 0 && needing.length === 0
+    && areGroupsKnown(state, both[1], folder.path);
   return { path: folder.path, before: folder.text, next: without, sure: isRedundant || isSeen };
 }
 
