@@ -73,6 +73,16 @@ class Laid(Large):
         self.assertEqual([name for name in self.judged.names("p")
                           if self.judged.bytes_at("p", name)], [])
 
+    def test_a_gap_at_the_first(self) -> None:
+        """All that is empty before what it consists of is gone."""
+        self.put(self.data, "pat")
+        self.assertEqual(self.put(data_of(4 * SMALL, 2), "pat", match="*"), 204)
+        for number in range(1, 5):
+            self.judged.does("pat", "DELETE", f"/object/p/d{in_parts.end_of(number)}")
+        self.close()
+        self.assertEqual({name for name, users in self.who_can("r").items()
+                          if users != {"alice"} and self.judged.bytes_at("p", name)}, set())
+
     def test_it_is_renamed_all_the_same(self) -> None:
         self.put(b"small", "bob")
         self.lay(1, 2)

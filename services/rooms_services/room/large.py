@@ -54,9 +54,26 @@ def count(ask: Asks, names: Names, rest: Rest | None = None) -> int:
 def count_of(ask: Asks, names: Names, rest: Rest | None = None) -> int:
     """Those of a document that is there: a folder has none, whatever lies beside it."""
     found = count(ask, names, rest)
-    if found and ask(about("GET", "folder", names)._replace(is_bare=True)).why != "wrong-kind":
-        return 0
-    return found
+    return found if found and is_document(ask, names) else 0
+
+
+def beside(ask: Asks, names: Names) -> list[int]:
+    """Those of a document by the listing of its folder, where the caller may see that, from the
+    last on: somebody may have removed the first ones. (To read the document would leave a record
+    that says so of whoever sets its list.)"""
+    above = names[:-1]
+    if not names or not ask(about("GET", "can", above, "r")).rulings().get("r"):
+        return []
+    reply = ask(about("GET", "folder", above))
+    if reply.status != 200 or in_parts.MARK.encode() not in reply.body:
+        return []
+    found = [int(name[-4:]) for name, is_folder in listed(reply.body, len(reply.body))
+             if not is_folder and in_parts.whole_of(name.decode()) == names[-1]]
+    return sorted(found, reverse=True) if found and is_document(ask, names) else []
+
+
+def is_document(ask: Asks, names: Names) -> bool:
+    return ask(about("GET", "folder", names)._replace(is_bare=True)).why == "wrong-kind"
 
 
 def resting(numbers: Iterable[int], rest: Rest | None) -> Iterator[int]:

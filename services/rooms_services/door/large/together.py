@@ -2,7 +2,7 @@
 are set, its owner changes. Nobody comes between. A kill in the middle leaves no object with other
 rights than before or after, and the same request, sent again, does the rest."""
 import json
-from collections.abc import Collection, Iterator
+from collections.abc import Collection, Iterable, Iterator
 from itertools import chain
 
 from rooms_admin.room import in_parts
@@ -99,6 +99,14 @@ def _all_of(ask: Asks, names: Names, count: int, used: Collection[int]) -> Itera
             yield number
 
 
+def _reached(ask: Asks, names: Names, rest: Rest | None) -> Iterable[int]:
+    """The parts at which a list or an owner is set with the document's."""
+    count = large.count_of(ask, names, rest)
+    if count:
+        return _all_of(ask, names, count, _used(ask, names, count))
+    return large.beside(ask, names)
+
+
 def _place(names: Names, number: int) -> Names:
     return large.part(names, number) if number else names
 
@@ -115,10 +123,8 @@ def set_at_all(ask: Asks, route: str, names: Names, body: bytes, rest: Rest | No
     """A list, or owners: of the parts first. One at which the caller may not do it any more has it
     already, by a request that was killed."""
     right = "o" if route == "attr" else "C"
-    count = large.count_of(ask, names, rest)
-    if count and _may(ask, names, right):
-        used = _used(ask, names, count)
-        for number in large.resting(_all_of(ask, names, count, used), rest):
+    if _may(ask, names, right):
+        for number in large.resting(_reached(ask, names, rest), rest):
             place = large.part(names, number)
             if _may(ask, place, right):
                 reply = ask(about("PUT", route, place, body=body))
