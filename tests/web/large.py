@@ -174,7 +174,8 @@ class Large:
         bob = self.bob
         bob.open('#/letters')
         bob.act('Preview', 'long.txt')
-        bob.says('This is its beginning', css='dialog .hint')
+        # Where much else runs, a browser lays that out for longer than all else takes.
+        bob.says('This is its beginning', css='dialog .hint', patience=4 * PATIENCE)
         shown = bob.script("return document.querySelector('dialog pre').textContent.length")
         assert 1_000_000 < shown < 2_097_152, shown
         bob.press('Close', 'dialog')
