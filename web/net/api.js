@@ -152,9 +152,11 @@ export function putOnce(word, path, bytes, fields, onProgress, signal = null) {
     asking.open('PUT', target(word, path));
     for (const [name, value] of Object.entries(fields)) asking.setRequestHeader(name, value);
     asking.upload.onprogress = (event) => onProgress(event.loaded, event.total);
-    // A file that was changed or removed since it was chosen fails as a lost connection does.
+    // A file that was changed or removed since it was chosen fails as a lost connection does. One
+    // that was gone at once has no size, and so no first byte that couldn't be read.
     asking.onerror = async () => {
-      const isRead = await bytes.slice(0, 1).arrayBuffer().then(() => true, () => false);
+      const some = bytes.size === 0 ? bytes : bytes.slice(0, 1);
+      const isRead = await some.arrayBuffer().then(() => true, () => false);
       reject(new Refusal(isRead ? 0 : UNREADABLE, null, asked));
     };
     asking.onabort = () => reject(new Refusal(STOPPED, null, asked));
