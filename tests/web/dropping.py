@@ -6,7 +6,8 @@ import os
 class Dropping:
     def drag(self, kind, css, *paths):
         """Drags files of this machine over the middle of an element, or drops them there."""
-        box = self.alice.one(css).rect
+        # A row may be drawn anew after it is found and before it is measured.
+        box = self.alice.until(lambda: self.alice.one(css).rect, css)
         self.alice.driver.execute_cdp_cmd('Input.dispatchDragEvent', {
             'type': kind, 'x': box['x'] + box['width'] / 2, 'y': box['y'] + box['height'] / 2,
             'data': {'items': [], 'files': list(paths), 'dragOperationsMask': 1}})

@@ -34,13 +34,12 @@ class Lasting:
             alice.press('Stop', '.uploads')
         finally:
             os.kill(self.server, signal.SIGCONT)
-        alice.says('Stopped.', f'of {MANY + 1} were removed. Still there: full (',
-                   'documents and 1 folder)')
+        alice.until(lambda: any('Stopped.' in one for one in alice.texts('.notice')), 'the message')
         assert not alice.all('.uploads')
         left = self.ask('GET', '/folder/full').count('"name"')
         assert 0 < left < MANY, left
-        said = f'{MANY - left} of {MANY + 1} were removed. Still there: full ({left} documents'
-        assert any(said in one for one in alice.texts('.notice')), alice.texts('.notice')
+        alice.says(f'Stopped. {MANY - left} of {MANY + 1} were removed. Still there: full ({left} '
+                   'documents and 1 folder).')
         alice.act('Remove', 'full')
         alice.press('Remove it', 'dialog')
         alice.says('full was removed')
