@@ -15,7 +15,7 @@ import { foresee } from '../net/would.js';
 import { lossOf, lossWords } from './loss.js';
 import { removalOf, removalWords } from './removers.js';
 import { isolated, placeWords } from './words.js';
-import { noAnswerWords } from './would_words.js';
+import { isListFault, noAnswerWords } from './would_words.js';
 
 // The own entries of 'sent' that allow something to those whom no entry of 'before' allowed
 // anything.
@@ -107,7 +107,7 @@ const seenBelow = (kind, path) => (kind === 'folder' ? lookBelow(path).then(
 // is the room's text.
 export async function judged(draft, now) {
   const before = readListText(now).list;
-  const sent = draft.list;
+  const sent = readListText(draft.text).list;
   // What can't be read is refused by the room, and the list of records decides nothing.
   if (!before || !sent || draft.which !== 'dacl') return { loss: null, warned: [] };
   return asked(draft, { now, before, sent }).catch((fault) => {
@@ -115,6 +115,12 @@ export async function judged(draft, now) {
     return { loss: { title: texts.would.title, text }, warned: [{ kind: 'unsure', text }] };
   });
 }
+
+// The room tells which entry may not stand there.
+const orRefused = (fault) => {
+  if (isListFault(fault)) return null;
+  throw fault;
+};
 
 async function asked({ path, kind }, { now, before, sent }) {
   const [me, object, folders, known, below] = await Promise.all([
@@ -124,13 +130,14 @@ async function asked({ path, kind }, { now, before, sent }) {
   const after = afterSending(sent, before, above, kind);
   const depth = (one) => one.path.split('/').length;
   const nodes = below.nodes.sort((one, other) => depth(one) - depth(other));
-  const [passage, said] = await Promise.all([
-    passageOf({ fresh: added(sent, before), after, kind, object, folders, known, me }),
-    foresee({ known, me, changes: [{ set: path, text: printList(sent) }],
-      objects: withImagined([...wayObjects(folders), { path, kind, text: now, object }, ...nodes],
-        kind === 'folder' ? [path] : []) })]);
+  const passage = passageOf({ fresh: added(sent, before), after, kind, object, folders, known, me });
+  passage.catch(() => {}); // That is told once the rest is known.
+  const said = await foresee({ known, me, changes: [{ set: path, text: printList(sent) }],
+    objects: withImagined([...wayObjects(folders), { path, kind, text: now, object }, ...nodes],
+      kind === 'folder' ? [path] : []) }).catch(orRefused);
+  if (said === null) return { loss: null, warned: [] };
   const lost = lossOf(said, path, { me, after });
   const removal = removalOf(said, { path, kind }, { ...below, nodes, protect: sent.protect });
   return { loss: lost && lossWords(lost),
-    warned: [...passage, ...removalWords(kind, removal, known)] };
+    warned: [...await passage, ...removalWords(kind, removal, known)] };
 }

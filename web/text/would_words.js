@@ -6,6 +6,10 @@ import { sentenceOf } from './words.js';
 // Whether it is the program that has no answer.
 export const isUnsaid = (fault) => fault.asked?.word === 'would';
 
+// What the program says of a list that the room would refuse too. Of those that it has none is so.
+export const isListFault = (fault) => isUnsaid(fault) && fault.status === 400
+  && / A\d+ /.test(String(fault.body?.line ?? ''));
+
 // Why there is no answer. What else failed is told as what it is.
 export function noAnswerWords(fault) {
   if (!isUnsaid(fault)) return sentenceOf(fault);
