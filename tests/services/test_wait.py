@@ -9,6 +9,7 @@ import unittest
 from contextlib import suppress
 from unittest import mock
 
+from rooms_admin.cli.report import Stop
 from rooms_admin.host import locks
 from rooms_admin.room import awaited, server, waits, way
 from rooms_services import listening as services, wait
@@ -219,6 +220,13 @@ class Waiting(Over):
         except FileNotFoundError:
             return ""
         return "waiting" if found == os.stat(self.own).st_ino else "server"
+
+    def test_a_server_that_has_ended(self) -> None:
+        """Nobody waits for one that ended before it answered anybody. (No process has the
+        number.)"""
+        with mock.patch.dict(os.environ, MAINPID=str(1 << 30)), self.assertRaises(Stop):
+            awaited.arrive("office")
+        self.assertEqual(self.leads_to(), "")
 
     def answering(self) -> threading.Thread:
         """A server that has whom to answer before the question of who leaves."""

@@ -33,15 +33,21 @@ def is_well(port: str, path: str) -> bool:
 
 
 def arrive(room: str) -> None:
-    """A start that nobody was told of, such as that of the machine, has others wait as well."""
+    """A start that nobody was told of, such as that of the machine, has others wait as well: not
+    for a server that has ended by now, where what they wait at may not start either."""
+    _refuse_ended(room)
     way.to_waiting(room)
-    # systemd waits for this process where the server has ended, and only then starts it again.
-    process = os.environ.get("MAINPID", "")
     while _answer("", way.socket_of(room)) is None:
-        if process.isdigit() and not os.path.exists(f"/proc/{process}"):
-            raise Stop(f"the server of {room} has ended")
+        _refuse_ended(room)
         time.sleep(0.05)
     way.to_server(room)
+
+
+def _refuse_ended(room: str) -> None:
+    """systemd waits for this process where the server has ended, and only then starts it again."""
+    process = os.environ.get("MAINPID", "")
+    if process.isdigit() and not os.path.exists(f"/proc/{process}"):
+        raise Stop(f"the server of {room} has ended")
 
 
 def _comes_back(room: str) -> bool:
