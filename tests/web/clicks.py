@@ -42,7 +42,8 @@ VERBS = {'read': 'can read', 'change': 'can change', 'add to and change': 'can a
 VAGUE = ('some more rights', 'not the same rights as now')
 # What may be said of removing, beside a level or alone.
 REMOVALS = {'remove it': 'it', 'remove what is there': 'inside',
-            'remove what they made there': 'own'}
+            'remove what they made there': 'own', 'remove documents there': 'inside',
+            'remove folders there': 'inside'}
 OWNERS = 'Whoever made a document here may then also remove and rename it.'
 
 

@@ -35,7 +35,8 @@ const LEAST = { 'can pass through': ({ here }) => here.includes('x'),
   'no access': ({ here }) => !/[rwC]/.test(here), 'can remove what is there': () => true };
 const REMOVING = ['can add, change and remove', 'can change and remove', 'can manage'];
 const REMOVED = { 'remove it': 'it', 'remove what is there': 'inside',
-  'remove what they made there': 'own' };
+  'remove what they made there': 'own', 'remove documents there': 'document',
+  'remove folders there': 'folder' };
 // Words that say that there are more rights, and not which: of lists that somebody wrote by hand.
 const VAGUE = ['not the same rights as now', 'some more rights', 'custom'];
 const ASKED = 'rxwaDtcCo';
@@ -144,9 +145,9 @@ function beyond({ level, removes, at, isVague, isInside }, { one, gains, removin
   if (isVague || VAGUE.includes(level)) return false;
   const most = level === null ? '' : MOST[level] ?? ASKED;
   const more = gains.filter((letter) => !most.includes(letter)
-    && !(letter === 'D' && (removes.includes('inside') || one.kind === 'document'
+    && !(letter === 'D' && (/inside|folder|document/.test(removes) || one.kind === 'document'
       || (isInside && removes.includes('it')))));
-  const isRemovingSaid = REMOVING.includes(level)
+  const isRemovingSaid = REMOVING.includes(level) || removes.includes(one.kind)
     || (isTheirs && (level === 'can add and change' || removes.includes('own')))
     || removes.includes(at === one.path ? 'it' : 'inside');
   return more.length > 0 || (removing && !isRemovingSaid);

@@ -157,7 +157,8 @@ const LEAST = { 'can pass through': ({ here }) => here.includes('x'),
   'no access': ({ here }) => !/[rwC]/.test(here), 'can remove what is there': () => true };
 const REMOVING = ['can add, change and remove', 'can change and remove', 'can manage'];
 const REMOVED = { 'remove it': 'it', 'remove what is there': 'inside',
-  'remove what they made there': 'own' };
+  'remove what they made there': 'own', 'remove documents there': 'document',
+  'remove folders there': 'folder' };
 
 // {level, removes} of the words of a line: 'removes' has words of REMOVED. The level is null where
 // they are about removing alone.
@@ -227,11 +228,12 @@ function unsaidAt(claims, hints, { caller, one, had, has, openedAt }) {
   // On a document D says nothing.
   const most = level === null ? '' : MOST[level] ?? ALL;
   const beyond = gains.filter((letter) => !most.includes(letter)
-    && !(letter === 'D' && (removes.includes('inside') || one.kind === 'document')));
+    && !(letter === 'D' && (one.kind === 'document'
+      || removes.some((what) => ['inside', 'folder', 'document'].includes(what)))));
   const isTheirs = one.owner === caller.user
     && (level === 'can add and change' || removes.includes('own'));
   const isRemovingSaid = REMOVING.includes(level) || isTheirs
-    || removes.includes(at === one.path ? 'it' : 'inside');
+    || removes.includes(at === one.path ? 'it' : 'inside') || removes.includes(one.kind);
   if (beyond.length > 0 || (removing && !isRemovingSaid)) {
     return `${got}, beyond “${nearest.text}”`;
   }

@@ -86,8 +86,8 @@ export class Said {
 
   // What somebody may do there and with what is in it: {level, it, inside, own, all}. The level is
   // about the documents that others make there too; 'it' says whether they may remove the object,
-  // 'inside' what others make in it, and 'own' what they make there themselves. 'all' has the rows
-  // of these: here, what others make there, and last what they make there themselves.
+  // 'inside' what others make in it (and so 'documents' and 'folders'), 'own' what they make there
+  // themselves. 'all' has the rows of these, those of 'own' last.
   extentAt(path, kind, caller, side = AFTER) {
     const here = this.at(path, caller, side);
     if (here === null) return null;
@@ -96,6 +96,7 @@ export class Said {
     const others = its === null ? [] : [its.other, its.folder, its.deep];
     return { level: levelOf(here, its && its.other), it: here.removes,
       inside: others.some(({ removes }) => removes),
+      documents: its?.other.removes === true, folders: its?.folder.removes === true,
       own: its !== null && makes && its.own.removes,
       all: [here, ...others, ...its !== null && makes ? [its.own] : []] };
   }

@@ -207,7 +207,8 @@ const named = (level, kind) =>
   (level === 'none' ? 'kein Zugriff' : `„${levelOf(level, kind)}“`);
 
 const REMOVALS = { it: 'das Objekt selbst entfernen', inside: 'dort Vorhandenes entfernen',
-  own: 'dort selbst Angelegtes entfernen' };
+  own: 'dort selbst Angelegtes entfernen', documents: 'dort Dokumente entfernen',
+  folders: 'dort Ordner entfernen' };
 const removing = (what) => what.map((one) => REMOVALS[one]);
 const withRemovals = (level, kind, removals) => (removals.length > 0
   ? `${named(level, kind)} und dazu ${and(removing(removals))}` : named(level, kind));

@@ -185,7 +185,8 @@ export const EN_ACCESS = {
 const shortOf = (level, kind) => (level === 'none' ? 'no access' : small(levelOf(level, kind)));
 
 const REMOVALS = { it: 'remove it', inside: 'remove what is there',
-  own: 'remove what they made there' };
+  own: 'remove what they made there', documents: 'remove documents there',
+  folders: 'remove folders there' };
 const removing = (what) => what.map((one) => REMOVALS[one]);
 const withRemovals = (level, kind, removals) => (removals.length > 0
   ? `${shortOf(level, kind)} and ${and(removing(removals))}` : shortOf(level, kind));

@@ -203,7 +203,8 @@ const named = (level, kind) =>
   (level === 'none' ? 'aucun accès' : `« ${levelOf(level, kind)} »`);
 
 const REMOVALS = { it: 'supprimer l’objet lui-même', inside: 'supprimer ce qui s’y trouve',
-  own: 'supprimer ses propres ajouts' };
+  own: 'supprimer ses propres ajouts', documents: 'supprimer les documents qui s’y trouvent',
+  folders: 'supprimer les dossiers qui s’y trouvent' };
 const removing = (what) => what.map((one) => REMOVALS[one]);
 const withRemovals = (level, kind, removals) => (removals.length > 0
   ? `${named(level, kind)} et en plus ${and(removing(removals))}` : named(level, kind));

@@ -27,7 +27,7 @@ const beyondLevel = ({ to, gained }) => (['remove', 'manage'].includes(to) ? []
 
 // Of somebody whose level stays as it is.
 function sameLevelWords({ from, more, gained, lost, isRemoval }) {
-  if (!isRemoval && (!more || gained.length === 0)) {
+  if (isRemoval ? gained.length + lost.length === 0 : !more || gained.length === 0) {
     return more ? texts.outcome.moreRights : texts.outcome.otherRights;
   }
   const words = texts.outcome.removals(gained, lost, from === 'none');

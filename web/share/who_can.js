@@ -9,6 +9,8 @@ import { FOLLOWS, UNNAMED } from '../acl/question.js';
 const rank = (level) => RANKS.indexOf(level);
 const isRemover = (level) => level === 'remove' || level === 'manage';
 const REMOVALS = ['it', 'inside', 'own'];
+// Of what is inside, where some of it may be removed by both states.
+const KINDS = ['documents', 'folders'];
 const NOTHING = { mask: '', removes: false };
 
 // What of one state isn't in another one, as words: of an object and of what is in it.
@@ -17,6 +19,10 @@ const lacking = (all, others, sign) => all.flatMap(({ mask, removes }, at) => {
   return [...[...mask].filter((letter) => !other.mask.includes(letter)),
     ...removes && !other.removes ? ['removes'] : []].map((word) => `${sign}${at}${word}`);
 });
+
+// What may be removed by one state and not by another one.
+const removalsOnly = (one, other) => [...REMOVALS, ...one.inside && other.inside ? KINDS : []]
+  .filter((each) => one[each] && !other[each]);
 
 // How a caller's rights at an object differ: {caller, says, from, to, more, gained, lost,
 // isRemoval, isBeyond}, or null. 'more' is false for whoever also loses something. 'gained' and
@@ -33,11 +39,9 @@ function differenceAt(said, { path, kind }, caller) {
   return { caller, says, from, to,
     isBeyond: [...says].some((one) => /^\+\d.$/.test(one) && !letters.includes(one.at(-1))),
     more: ![...says].some((one) => one.startsWith('-')) && rank(to) >= rank(from),
-    isRemoval: from === to && [...says].every((one) => one.endsWith('removes')),
-    gained: REMOVALS.filter((one) => has[one] && !had[one]),
-    lost: REMOVALS.filter((one) => had[one] && !has[one]) };
+    isRemoval: from === to && [...says].every((one) => /(D|removes)$/.test(one)),
+    gained: removalsOnly(has, had), lost: removalsOnly(had, has) };
 }
-
 
 // Whose rights at an object differ: callers, each with what differenceAt says.
 export const changesAt = (said, place) => toTell(said.changing.map((caller) =>
@@ -52,7 +56,7 @@ function isNews(one, above) {
   if (above === undefined || (above.more && !one.more)
     || (one.isBeyond && !above.isBeyond)) return true;
   const isSaid = (words) => one[words].every((word) =>
-    above[words].includes(word === 'it' ? 'inside' : word));
+    above[words].includes(word) || (word !== 'own' && above[words].includes('inside')));
   const isLost = isRemover(above.from) && !isRemover(above.to);
   return one.to !== above.to || !(isRemover(above.to) || isSaid('gained'))
     || !(isLost || above.to === 'none' || isSaid('lost'));
