@@ -81,13 +81,15 @@ import socket
 import time
 many = [socket.socket(socket.AF_UNIX) for _ in range(700)]
 refused = 0
-for one in many:
+ends = time.monotonic() + 10
+for place, one in enumerate(many):
     one.setblocking(False)
-    try:
-        one.connect("/run/rooms/office/socket")
-    except OSError:
-        refused += 1
-    time.sleep(0.002)
+    while one.connect_ex("/run/rooms/office/socket"):
+        # (Those who wait may not be taken as fast as they come.)
+        if place >= 500 or time.monotonic() > ends:
+            refused += 1
+            break
+        time.sleep(0.01)
 print(refused)
 END
 does 'waits again' 'systemctl stop rooms@office; sed -i "s/ = 4.0, 10.0/ = 20.0, 10.0/" \
