@@ -38,7 +38,7 @@ export function asked(text) {
 }
 
 // In the place of a list on the way that can't be read.
-const OPEN = 'list:\nA::EVERYONE@:x\n';
+const OPEN = 'list:p\nA::EVERYONE@:x\n';
 const above = (path) => path.slice(0, path.lastIndexOf('/')) || '/';
 const isIn = (path, folder) => folder === '/' || path === folder || path.startsWith(`${folder}/`);
 const linesOf = (list) => list.trimEnd().split('\n');

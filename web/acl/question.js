@@ -34,9 +34,10 @@ export function imaginedIn({ path, object: { group } }) {
     one('own', 'document', OF_EACH)];
 }
 
-// In the place of a list on the way that may not be read: it hinders nobody here, and passes
-// nothing on. That it isn't known has to be told.
-export const OPEN = 'list:\nA::EVERYONE@:x\n';
+// In the place of a list on the way that may not be read: it hinders nobody here, gets nothing from
+// above, and passes nothing on: what lies there keeps what it has. That it isn't known has to be
+// told.
+export const OPEN = 'list:p\nA::EVERYONE@:x\n';
 
 // Lists by themselves, as those of objects that everybody gets to: [{name, kind, list, object}] as
 // objects of a question, of which 'alone' says the paths.
