@@ -57,8 +57,8 @@ print(len(known) > 200, [hex(one) for one in codes if signs.is_seen(chr(one))],
 else
   skip 'accesses that end' 'missing: /usr/bin/python3'
 fi
-node_says 'what is said before a list is sent' '72 tried, 0 faults' "$here/web/warning.mjs" page
-node_says 'and with the program' '72 tried, 0 faults' "$here/web/warning.mjs" page "$rooms"
+node_says 'what is said before a list is sent' '76 tried, 0 faults' "$here/web/warning.mjs" page
+node_says 'and with the program' '76 tried, 0 faults' "$here/web/warning.mjs" page "$rooms"
 node_says 'for whom a change is asked about' '50 tried, 0 faults' "$here/web/callers.mjs" page
 node_says 'what is asked and answered about a change' '2000 tried, 0 faults' \
   "$here/web/asking.mjs" page 2000
