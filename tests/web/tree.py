@@ -114,8 +114,8 @@ class Tree:
         alice.until(lambda: self.focused() == 'Add people or groups', 'the focus')
 
     def full_list(self):
-        """The room takes 64 entries of an object's own: the 65th is refused in words, and nothing
-        is lost."""
+        """The room takes 64 entries of an object's own: of the 65th that is said at once, and
+        nothing is sent."""
         alice = self.alice
         self.ask('POST', '/folder/many')
         lines = ['A:fd:alice:rwanNxDtThHdcCoy',
@@ -124,9 +124,11 @@ class Tree:
         self.panel('/many')
         assert len(self.lines()) == 64
         self.pick('kim', 'person')
-        alice.press('Share', '.adding')
-        alice.says('A list may have 64 entries of its own at most', 'Put people into a group')
+        alice.says('A list may have 64 entries of its own at most', 'Put people into a group',
+                   css='.adding .outcome')
+        assert not alice.button('Share', '.adding').is_enabled()
         assert self.own_of('/many') == lines
+        alice.press('Cancel', '.adding')
         self.set_level('user7', 'gone')
         self.confirm('Remove access')
         assert len(self.own_of('/many')) == 63

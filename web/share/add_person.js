@@ -18,7 +18,7 @@ import { levelWords, placeName } from './access_words.js';
 import { below, mark } from '../ui/names.js';
 import { inSentence, membersOf, whoName } from '../text/who_is.js';
 import { isolated } from '../text/words.js';
-import { isUnsaid } from '../text/would_words.js';
+import { isListFault, isUnsaid } from '../text/would_words.js';
 
 const MOST_MEMBERS = 8;
 
@@ -168,7 +168,7 @@ class Picked {
     }).catch((fault) => {
       if (!isUnsaid(fault)) tellFault(fault);
       else if (isWanted()) {
-        this.show(next, false);
+        this.show(next, isListFault(fault));
         this.told.fail(fault, () => this.draw());
       }
     });

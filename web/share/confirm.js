@@ -12,7 +12,7 @@ import { placeName } from './access_words.js';
 import { tellOutcome } from './outcome_view.js';
 import { sendAll } from './passage.js';
 import { sentenceOf } from '../text/words.js';
-import { isUnsaid, noAnswerWords } from '../text/would_words.js';
+import { isListFault, isUnsaid, noAnswerWords } from '../text/would_words.js';
 
 const stays = (paths) => texts.access.wayStays(paths.map(placeName));
 
@@ -90,8 +90,9 @@ export class Told {
   }
 
   // It can't be said what would come of it; then it may be sent all the same, without what would
-  // be offered beside it.
+  // be offered beside it. What the room would refuse isn't sent.
   fail(fault, again) {
+    const isRefused = isListFault(fault);
     const anew = () => {
       this.state.looking.goOn();
       again();
@@ -100,10 +101,10 @@ export class Told {
     this.text = null;
     this.box.replaceChildren(element('div', { class: 'outcome', 'aria-busy': 'false' },
       element('ul', { class: 'warnings', 'aria-label': texts.acts.mindThis },
-        element('li', { class: 'unsure' }, noAnswerWords(fault))),
-      button(texts.acts.anew, anew, { class: 'small' })));
+        element('li', { class: isRefused ? 'bad' : 'unsure' }, noAnswerWords(fault))),
+      isRefused ? null : button(texts.acts.anew, anew, { class: 'small' })));
     this.line.draw(false);
-    this.send.disabled = false;
+    this.send.disabled = isRefused;
   }
 }
 
@@ -142,7 +143,7 @@ export async function confirm(state, nextOf, words) {
   const fail = (fault) => {
     if (!isUnsaid(fault)) tellFault(fault);
     said.textContent = words.sentence({ changes: [] });
-    tellDanger(send, words, { lock: fault });
+    tellDanger(send, words, { lock: isListFault(fault) ? null : fault });
     told.fail(fault, anew);
   };
   const told = new Told(state, subject, send, anew);
