@@ -130,7 +130,8 @@ async function asked({ path, kind }, { now, before, sent }) {
   const after = afterSending(sent, before, above, kind);
   const depth = (one) => one.path.split('/').length;
   const nodes = below.nodes.sort((one, other) => depth(one) - depth(other));
-  const passage = passageOf({ fresh: added(sent, before), after, kind, object, folders, known, me });
+  const fresh = added(sent, before);
+  const passage = passageOf({ fresh, after, kind, object, folders, known, me });
   passage.catch(() => {}); // That is told once the rest is known.
   const said = await foresee({ known, me, changes: [{ set: path, text: printList(sent) }],
     objects: withImagined([...wayObjects(folders), { path, kind, text: now, object }, ...nodes],
