@@ -221,6 +221,7 @@ export const DE_OUTCOME = {
   line: (names, words) => `${and(names)} – ${words}`,
   at: (words, path) => `${words}, bei ${path}`,
   atInside: (words, path) => `${words}, bei Dokumenten in ${path}`,
+  atFoldersIn: (words, path) => `${words}, bei Ordnern in ${path}`,
   keepsAt: (words, path) => `${words}, bei ${path}, durch Zeilen dort`,
   withMore: (words) => `${words}, und hat noch einige Rechte mehr`,
   moreRights: 'einige weitere Berechtigungen',

@@ -200,6 +200,7 @@ export const EN_OUTCOME = {
   line: (names, words) => `${and(names)} – ${words}`,
   at: (words, path) => `${words}, at ${path}`,
   atInside: (words, path) => `${words}, with documents in ${path}`,
+  atFoldersIn: (words, path) => `${words}, with folders in ${path}`,
   keepsAt: (words, path) => `${words}, at ${path}, by lines there`,
   withMore: (words) => `${words}, and has some more rights`,
   moreRights: 'some more rights',

@@ -217,6 +217,7 @@ export const FR_OUTCOME = {
   line: (names, words) => `${and(names)} – ${words}`,
   at: (words, path) => `${words}, à ${path}`,
   atInside: (words, path) => `${words}, pour des documents dans ${path}`,
+  atFoldersIn: (words, path) => `${words}, pour des dossiers dans ${path}`,
   keepsAt: (words, path) => `${words}, à ${path}, par des lignes qui s’y trouvent`,
   withMore: (words) => `${words}, et a quelques droits de plus`,
   moreRights: 'quelques droits de plus',

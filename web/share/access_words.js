@@ -51,9 +51,10 @@ function changeWords(change, kind) {
 export const shownName = (known) => (caller) => partyName(caller, known);
 
 // What is imagined in a folder is whatever is there.
-function atWords(words, path) {
+function atWords(words, path, kind) {
   const [folder, ...rest] = path.split(`/${UNNAMED}`);
-  const say = rest.length === 0 ? texts.outcome.at : texts.outcome.atInside;
+  const inside = kind === 'folder' ? texts.outcome.atFoldersIn : texts.outcome.atInside;
+  const say = rest.length === 0 ? texts.outcome.at : inside;
   return say(words, isolated(folder === '' ? '/' : folder));
 }
 
@@ -81,7 +82,7 @@ function headOf({ more, owns }) {
 const changeLines = (changes, kind, known, path = null) => joinedLines(changes.map((caller) => {
   const words = changeWords(caller, kind);
   return { look: caller.more ? 'gain' : 'loss', head: headOf(caller), caller,
-    words: path === null ? words : atWords(words, path) };
+    words: path === null ? words : atWords(words, path, kind) };
 }), known);
 
 // What those who lose something keep further down, by lines that stand there.

@@ -32,12 +32,18 @@ const openedBy = (state, opening) =>
 function besideOf(said, opening, nodes) {
   const open = opening.filter(({ next }) => next !== null);
   const folders = open.map(({ path }) => ({ path, kind: 'folder', text: '' }));
-  const inside = open.map(({ path }) => (
-    { path: imagined(path).other, kind: 'document', text: '' }));
+  const inside = open.flatMap(({ path }) => [
+    { path: imagined(path).other, kind: 'document', text: '' },
+    { path: imagined(path).folder, kind: 'folder', text: '' }]);
   const found = changesBelow(said, [...folders, ...inside, ...nodes], [], '/',
     open.map(({ path }) => path));
-  return withChanges(found, (changes, { path }) =>
-    changes.filter(({ to }) => to !== 'pass' || !open.some((one) => one.path === path)));
+  // Of folders there it is told where they have other lines than documents.
+  const levels = new Set(found.flatMap(({ path, changes }) =>
+    changes.map(({ id, to }) => `${path} ${id} ${to}`)));
+  const others = new Map(open.map(({ path }) => [imagined(path).folder, imagined(path).other]));
+  return withChanges(found, (changes, { path }) => changes.filter(({ id, to }) =>
+    (to !== 'pass' || !open.some((one) => one.path === path))
+    && !levels.has(`${others.get(path)} ${id} ${to}`)));
 }
 
 // Of these levels it is said that they remove what they added.

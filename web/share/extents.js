@@ -42,6 +42,9 @@ export function extentsAt(said, places, caller, side) {
   return told;
 }
 
+// The nearest folder above that has a name.
+const namedAbove = (path) => path.slice(0, path.indexOf(`/${UNNAMED}`)) || '/';
+
 // What somebody owns that only follows its folder, where that gives them something else than what
 // others have there; whoever makes something there is told of with the folder: [{path, words}] with
 // the folder's path.
@@ -55,9 +58,10 @@ export function ownedAt(said, nodes, caller, side) {
     return at(path) !== null && !isLike(folder.other, path)
       && !(makes && isLike(folder.own, path));
   };
-  return nodes.filter((one) => one.path.includes(UNNAMED) && caller.user !== null
+  const found = nodes.filter((one) => one.path.includes(UNNAMED) && caller.user !== null
     && one.object.owner === caller.user && isApart(one)).map(({ path, kind }) => (
-    { path: parentOf(path), words: extentWords(said.extentAt(path, kind, caller, side), kind) }));
+    { path: namedAbove(path), words: extentWords(said.extentAt(path, kind, caller, side), kind) }));
+  return [...new Map(found.map((one) => [`${one.path} ${one.words}`, one])).values()];
 }
 
 export const wordsAt = ({ path, words }) => texts.outcome.at(words, isolated(path));
