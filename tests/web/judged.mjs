@@ -7,12 +7,15 @@
 // BY-HAND are written by hand. 'rooms review' before and after says what everybody gains and loses,
 // also outside of what changes: all of it has to be said, and nothing that isn't so. Where members
 // can't be looked up, that holds whoever is in which groups, of up to three. A line says of each
-// dialog how many were 'unsaid' and 'not so'.
+// dialog in how many trees it was confirmed, and how many changes were 'unsaid' and 'not so'.
 import { fork } from 'node:child_process';
 import { cpSync } from 'node:fs';
 import { resolve } from 'node:path';
 import { pathToFileURL } from 'node:url';
-import { DIALOGS, ME, Play } from './playing.mjs';
+import { judgeWritten } from './by_hand.mjs';
+import { DIALOGS as OF_LEVELS, ME, Play } from './playing.mjs';
+import { judgeReturned } from './nights.mjs';
+import { returned, written } from './playing_lists.mjs';
 import { Served } from './served.mjs';
 import { dumped, faultsOf } from './questions.mjs';
 import { judgeMove, movesIn } from './said_of_moves.mjs';
@@ -21,6 +24,7 @@ import { Chance, GROUPS, USERS, requestsFor } from './trees.mjs';
 
 const [page, program, folder, count, seed = '1', byHand = '0', ...named] = process.argv.slice(2);
 const served = new Served(program, resolve(folder));
+const DIALOGS = { ...OF_LEVELS, written, returned };
 const NAMES = Object.keys(GROUPS);
 // They own something, and no group has them.
 const OTHERS = ['root', 'mallory'];
@@ -42,6 +46,7 @@ async function playAll({ mode, turns }) {
   const copy = resolve(folder, `page-${process.pid}`);
   cpSync(page, copy, { recursive: true });
   globalThis.fetch = served.fetchFor(ME, DIRECTORY[mode]);
+  globalThis.XMLHttpRequest = Served.uploading;
   const module = (name) => import(`${pathToFileURL(copy).href}/${name}`);
   for (const { dialog, top, tree, start } of turns) {
     const play = new Play(module, new Chance(start), served);
@@ -73,9 +78,12 @@ const rowsAt = (rows, path, user) => {
 };
 const NOTHING = { letters: '', removes: false };
 
-// Of each world what a review says: 'came' says where what then stands at a path stood before.
+// Of each world what a review says: 'came' says where what then stands at a path stood before, and
+// 'passing' has the folders whose lists what is in them follows.
 class State {
-  constructor(reviews, came = (path) => path) { Object.assign(this, { reviews, came }); }
+  constructor(reviews, passing, came = (path) => path) {
+    Object.assign(this, { reviews, passing, came });
+  }
 
   at(path, { user, world }) {
     const from = this.came(path);
@@ -84,7 +92,10 @@ class State {
     return rows ?? NOTHING;
   }
 
-  inside(path, caller) { return this.at(`${path}/other`, caller); }
+  // Null where what is there follows a list of its own, which says nothing of what is made there.
+  inside(path, caller) {
+    return this.passing.has(path) ? this.at(`${path}/other`, caller) : null;
+  }
 }
 
 const EVERYONE = ['everyone who signs in', 'everyone else who signs in'];
@@ -137,13 +148,11 @@ function isSeen(before, tree, path) {
     || (isSeen(before, tree, above(path)) && mine(above(path), 'r')));
 }
 
-// The same of a move. What I gain or lose by it myself isn't told.
-function judgeMoved({ mode, tree }, { text, warnings, moved: [{ from, to }] },
-  { before, after, paths }) {
-  const claims = movesIn(warnings);
-  const users = new Set([...USERS, ...OTHERS]);
-  const isNamed = ({ user }) => claims.some(({ names }) => new RegExp(`\\b${user}\\b`).test(names));
-  const covers = (names, caller) => namesIn(names).some((name) => {
+// Whether the names of a sentence mean a caller, also where it only counts some. 'all' are those of
+// each sentence.
+function coversNames(all, mode) {
+  const isNamed = ({ user }) => all.some((names) => new RegExp(`\\b${user}\\b`).test(names));
+  return (names, caller) => namesIn(names).some((name) => {
     const meant = meantBy(name);
     if (meant === null) return /^\d+ others?$/.test(name);
     if (mode === 'm') {
@@ -153,6 +162,35 @@ function judgeMoved({ mode, tree }, { text, warnings, moved: [{ from, to }] },
     return (meant.user === null || meant.user === caller.user)
       && meant.groups.every((one) => caller.groups.includes(one));
   });
+}
+
+// Of a list by hand only some of what comes of it is told.
+function judgeByHand({ mode, tree }, shown, { before, after, paths }) {
+  if (!isSeen(before, tree, shown.path)) return { unsaid: [], wrong: [], compared: 0, differ: 0 };
+  const callers = callersIn(mode, new Set(USERS)).filter(({ user }) => user !== ME);
+  const covers = (names, caller) => coversNames([names], mode)(names, caller);
+  return judgeWritten(shown, { callers, covers, before, after,
+    mine: { user: ME, groups: [], world: 'real' },
+    paths: paths.filter((path) => path.startsWith(`${shown.path}/`)) });
+}
+
+// What comes back is judged by the night, which is how it was before.
+function judgeNight({ mode, tree }, shown, { before, after, paths }) {
+  const users = new Set([...USERS, ...mode === 'm' ? OTHERS : []]);
+  const callers = callersIn(mode, users).filter(({ user }) => user !== ME);
+  const covers = (names, caller) => coversNames([names], mode)(names, caller);
+  const those = paths.filter((path) => `${path}/`.startsWith(`${shown.path}/`)
+    && isSeen(before, tree, path));
+  return judgeReturned(shown, { unjudged: [ME, ...OTHERS], callers, covers, before, after,
+    paths: those });
+}
+
+// The same of a move. What I gain or lose by it myself isn't told.
+function judgeMoved({ mode, tree }, { text, warnings, moved: [{ from, to }] },
+  { before, after, paths }) {
+  const claims = movesIn(warnings);
+  const users = new Set([...USERS, ...OTHERS]);
+  const covers = coversNames(claims.map(({ names }) => names), mode);
   const isKnown = (path) => !text.includes('isn’t known') || isSeen(before, tree, path);
   const those = paths.filter((path) => (path === to || path.startsWith(`${to}/`)) && isKnown(path))
     .map((path) => [from + path.slice(to.length), path]);
@@ -167,7 +205,10 @@ function judge(turn, shown, reviews) {
   const { mode, tree } = turn;
   const claims = claimsOf(shown);
   const covers = coversIn(claims, mode);
-  const [before, after] = [new State(reviews[0], cameBy(shown)), new State(reviews[1])];
+  const passing = new Set(tree.filter(({ kind, list }) => kind === 'folder'
+    && /^(null|list:.*a)/.test(String(list).split('\n')[0])).map(({ path }) => path));
+  const [before, after] = [new State(reviews[0], passing, cameBy(shown)),
+    new State(reviews[1], passing)];
   const [first] = reviews[1].values();
   const top = `${tree[0].path}/`;
   const paths = [...first.keys()].filter((path) => `${path}/`.startsWith(top));
@@ -183,6 +224,8 @@ function judge(turn, shown, reviews) {
     found.wrong = looksWrong(shown.looks, callersIn(mode, users), seen, before);
     return found;
   }
+  if (shown.isReturned) return judgeNight(turn, shown, { before, after, paths });
+  if (shown.isByHand) return judgeByHand(turn, shown, { before, after, paths });
   if (shown.moved) return { ...found, ...judgeMoved(turn, shown, { before, after, paths }) };
   const said = { ...shown, claims, covers };
   const isAboveUnknown = shown.text.includes('isn’t known who gets it here');
@@ -257,6 +300,7 @@ async function main() {
   const shown = new Map(all.flatMap((one) => [...one]));
   const after = reviewed();
   let faults = 0;
+  console.log('dialog,trees,compared,changes,unsaid,not so,questions,faults in them');
   for (const dialog of dialogs) faults += told(dialog, turns, shown, { before, after, dump });
   console.log(`${faults} faults`);
   process.exit(faults === 0 ? 0 : 1);
@@ -266,9 +310,10 @@ async function main() {
 function faultsAsked({ mode }, { questions = [] }, { before, dump }) {
   const rights = (path) => before[mode].get('real').get(path)?.get(ME)?.rights ?? 'x';
   // Before all was looked at, less was asked about.
-  return questions.slice(-2).flatMap((one) => faultsOf(one, dump, rights));
+  return questions.slice(-1).flatMap((one) => faultsOf(one, dump, rights));
 }
 
+const COLUMNS = ['asked', 'compared', 'differ', 'unsaid', 'wrong', 'questions', 'beside'];
 function told(dialog, turns, shown, { before, after, dump }) {
   const sum = { asked: 0, questions: 0, beside: 0, compared: 0, differ: 0, unsaid: 0, wrong: 0,
     failed: 0 };
@@ -289,9 +334,7 @@ function told(dialog, turns, shown, { before, after, dump }) {
     const faults = [...found.unsaid, ...found.wrong, ...beside];
     if (faults.length > 0) tell(turn, `${faults.slice(0, 3).join('\n')}\n${said.text}`);
   }
-  console.log(`${dialog}: ${sum.asked} of ${count} were sent, ${sum.compared} compared, ${
-    sum.differ} differ, ${sum.unsaid} unsaid, ${sum.wrong} not so; ${sum.questions} questions, ${
-    sum.beside} faults in them`);
+  console.log([dialog, ...COLUMNS.map((column) => sum[column])].join());
   return sum.unsaid + sum.wrong + sum.failed + sum.beside + (sum.asked * 3 < count ? 1 : 0);
 }
 

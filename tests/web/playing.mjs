@@ -10,7 +10,7 @@ const PATIENCE = 60000;
 export const ME = 'alice';
 
 const pause = (time) => new Promise((done) => { setTimeout(done, time); });
-async function until(holds, what) {
+export async function until(holds, what) {
   for (const end = Date.now() + PATIENCE; ; await pause(5)) {
     const found = holds();
     if (found) return found;
@@ -34,11 +34,11 @@ function lineOf(li) {
   return { text, names: namesIn(names) };
 }
 
-const shownIn = (box, path, kind) => ({ path, kind,
+export const shownIn = (box, path, kind) => ({ path, kind,
   text: plain(box.innerText).replace(/\n\s*/g, '\n'),
   lines: box.querySelectorAll('.changes li').map(lineOf) });
 
-const dialogNow = () => body.querySelectorAll('dialog').at(-1);
+export const dialogNow = () => body.querySelectorAll('dialog').at(-1);
 const noticesNow = () => body.querySelector('#notices').children;
 
 export class Play {
@@ -125,8 +125,8 @@ export class Play {
 
 const isFolder = ({ kind }) => kind === 'folder';
 // Objects in the order in which they are tried, and what the first of them gives.
-async function firstOf(play, tree, does) {
-  for (const one of play.chance.mixed(tree).slice(0, 6)) {
+export async function firstOf(play, tree, does) {
+  for (const one of play.chance.mixed(tree).slice(0, 8)) {
     const found = await does(one);
     if (found !== null) return found;
     play.clear();
@@ -155,9 +155,12 @@ const following = (isCut) => (play, tree) => firstOf(play, tree, async ({ path, 
   if (!box || box.disabled || box.checked === isCut) return null;
   box.click();
   const dialog = await until(() => dialogNow() ?? noticesNow().length > 0, 'question');
-  for (const tick of dialog === true ? [] : dialog.querySelectorAll('.whom input')) {
-    if (play.chance.is(40)) tick.click();
-  }
+  const ticks = dialog === true ? [] : dialog.querySelectorAll('.whom input');
+  // Where nobody can be left out, nothing changes.
+  if (isCut && ticks.length < 2 && play.chance.is(90)) return null;
+  if (ticks.length > 0) play.chance.pick(ticks).click();
+  // What can't be said by levels isn't ticked.
+  if (ticks.length > 1 && !ticks.some(({ checked }) => checked)) return null;
   const said = await play.confirmed(path, kind);
   return said && play.done(said);
 });

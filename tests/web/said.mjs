@@ -33,6 +33,7 @@ const LEAST = { 'can pass through': ({ here }) => here.includes('x'),
   'can change and remove': ({ here, removes }) => here.includes('w') && removes,
   'can manage': ({ here }) => here.includes('C'),
   'no access': ({ here }) => !/[rwC]/.test(here), 'can remove what is there': () => true };
+const ANYTHING = { letters: 'rwaxDtcCo', removes: true };
 const REMOVING = ['can add, change and remove', 'can change and remove', 'can manage'];
 const REMOVED = { 'remove it': 'it', 'remove what is there': 'inside',
   'remove what they made there': 'own', 'remove documents there': 'document',
@@ -69,12 +70,15 @@ function sentencesOf({ path, text }) {
   const said = /^(.*) can then (.*?) “/m.exec(text);
   const goes = /^At “.*” (.*) goes from “.*” to “(.*)”/m.exec(text);
   const claim = (names, level) => ({ isGain: true, isSentence: true, at: path, text: level,
-    names: names.split(/, | and /).filter((name) => /^\w+$/.test(name)), ...meaningOf(level) });
+    names: names.replace(/\([^)]*\)/g, '').split(/, | and /)
+      .filter((name) => /^\w+$/.test(name) && name !== 'Everyone'),
+    ...meaningOf(level) });
   return [...said ? [claim(said[1], VERBS[said[2]])] : [],
     ...goes ? [claim(goes[1], goes[2].toLowerCase())] : []];
 }
 
-const WORDS = /^(?:.*?) – (.*?)(?:, (?:at|with documents in) (\/.*?))?(?:, by lines there)?$/;
+const WORDS = new RegExp('^(?:.*?) – (.*?)(?:, (?:at|with (?:documents|folders) in) (/.*?))?'
+  + '(?:, by lines there)?$');
 const HEAD = /^(Perhaps )?(gains|loses|keeps): /i;
 
 // What the lines say: [{isGain, isKept, isPerhaps, names, at, level, removes, text}].
@@ -87,7 +91,7 @@ export function claimsOf(shown) {
     const word = head[2].toLowerCase();
     return [{ isGain: word === 'gains', isKept: word === 'keeps', isPerhaps: Boolean(head[1]),
       names, at: match[2] ?? path, text: match[1], ...meaningOf(match[1]),
-      isInside: text.includes(', with documents in /') }];
+      isInside: /, with (documents|folders) in \//.exec(text)?.[1] ?? null }];
   })];
 }
 
@@ -107,7 +111,8 @@ export function unsaidAt({ text, claims, covers }, caller, one, had, has) {
     return null;
   }
   const lost = minus(had.letters, has.letters);
-  if (lost.length > 0 || (had.removes && !has.removes)) {
+  const isOwnLost = isTheirs && text.includes(`${caller.name} can then no longer remove`);
+  if (lost.length > 0 || (had.removes && !has.removes && !isOwnLost)) {
     if (!about.some((claim) => !claim.isGain && !claim.isKept)) {
       return `lost ${lost.join('')}${had.removes && !has.removes ? ' and removing' : ''}, unsaid`;
     }
@@ -149,19 +154,21 @@ function beyond({ level, removes, at, isVague, isInside }, { one, gains, removin
       || (isInside && removes.includes('it')))));
   const isRemovingSaid = REMOVING.includes(level) || removes.includes(one.kind)
     || (isTheirs && (level === 'can add and change' || removes.includes('own')))
-    || removes.includes(at === one.path ? 'it' : 'inside');
+    || removes.includes(at === one.path || isInside ? 'it' : 'inside');
   return more.length > 0 || (removing && !isRemovingSaid);
 }
 
 // What was said of one who is meant and isn't so, or null. 'kindOf' says what stands at a path.
 export function wrongOf(claim, caller, kindOf, before, after) {
   if (claim.isInside) {
-    return wrongOf({ ...claim, isInside: false, at: `${claim.at}/other` }, caller,
+    // What a folder has there that only follows isn't known.
+    if (claim.isInside === 'folders' || after.inside(claim.at, caller) === null) return null;
+    return wrongOf({ ...claim, isInside: null, at: `${claim.at}/other` }, caller,
       () => 'document', before, after);
   }
   const [had, has] = [before, after].map((state) => state.at(claim.at, caller));
   const isFolder = kindOf(claim.at) === 'folder';
-  const inside = isFolder ? after.inside(claim.at, caller) : has;
+  const inside = isFolder ? after.inside(claim.at, caller) ?? ANYTHING : has;
   const so = { here: has.letters, inside: inside.letters, removes: has.removes,
     clears: inside.removes };
   const said = `“${claim.text}” at ${claim.at}`;

@@ -78,10 +78,40 @@ export class Served {
     };
   }
 
+  // The page's way to send a document, over its fetch.
+  static get uploading() {
+    return class {
+      upload = {};
+
+      fields = {};
+
+      open(method, where) { Object.assign(this, { method, where }); }
+
+      setRequestHeader(name, value) { this.fields[name] = value; }
+
+      getResponseHeader(name) { return this.headers.get(name); }
+
+      async send(body) {
+        const { method, fields: headers } = this;
+        const reply = await globalThis.fetch(this.where, { method, body, headers });
+        Object.assign(this, { status: reply.status, headers: reply.headers,
+          responseText: await reply.text() });
+        this.onload();
+      }
+    };
+  }
+
   // What was kept of an earlier night: 'night' has the answers by what is asked.
   earlier(where) {
-    const found = this.night.get(where.replace(/^earlier\/[^/]*\//, ''));
-    return found === undefined ? new Response('{}', { status: 404 }) : new Response(found);
+    const { status, body } = this.night.get(where.replace(/^earlier\/[^/]*\//, ''))
+      ?? { status: 404, body: '{}' };
+    return new Response(body, { status });
+  }
+
+  // Keeps what a user finds there now: 'words' are what is asked of each path.
+  async keepNight(user, asked) {
+    this.night.clear();
+    for (const where of asked) this.night.set(where, await this.ask(user, 'GET', `/${where}`));
   }
 
   // A copy of the room, since that is served.
