@@ -14,8 +14,6 @@ sys.path.insert(0, os.path.join(os.path.dirname(os.path.realpath(__file__)), '..
 from pipelined import Room  # noqa: E402
 
 HOST = 'rooms.example'
-# Of the line, in milliseconds.
-ROUND = 100
 ALL = 'rwanNxDtThHdcCoy'
 # When the rows of a folder are there for the first time, and when their dates are.
 WATCH = """
@@ -26,6 +24,11 @@ new MutationObserver((_, watching) => {
   window.datesAfter = performance.now();
   watching.disconnect();
 }).observe(document, { childList: true, subtree: true });"""
+# Whether the dates of a folder were asked for before its names had come.
+BESIDE = """
+const [dates, names] = ['/door/folder/wide', '/folder/wide'].map((path) =>
+  performance.getEntriesByType('resource').find((one) => new URL(one.name).pathname === path));
+return dates.startTime < names.responseEnd;"""
 # Does something, and answers after how many milliseconds something holds.
 TIMED = """
 const done = arguments[arguments.length - 1];
@@ -59,7 +62,7 @@ class Figures:
     def __init__(self, folder, port, log, line):
         self.folder, self.log, self.line = folder, log, int(line)
         self.base = f'https://{HOST}:{port}'
-        self.rows = {}
+        self.rows, self.shares = {}, []
         self.browser = None
 
     def begin(self, version):
@@ -74,8 +77,12 @@ class Figures:
                                             {'source': WATCH})
 
     def requests(self):
+        return len(self.asked())
+
+    def asked(self):
+        """The targets of all requests."""
         with open(self.log, encoding='utf-8') as file:
-            return len(file.readlines())
+            return [line.split(' ')[2] for line in file]
 
     def note(self, what, milliseconds, before):
         asked = self.requests() - before
@@ -107,8 +114,8 @@ class Figures:
             rows = self.browser.script('return window.rowsAfter')
             least = min(least, dates - rows)
         self.note(what, least, before)
-        # They are asked for beside the names: no further round of the line.
-        assert least < ROUND, least
+        # No further round of the line.
+        assert self.browser.script(BESIDE), 'dates were asked for after the names'
 
     def share(self, what, folder):
         self.browser.open(f'#/{folder}?access')
@@ -117,6 +124,7 @@ class Figures:
         self.browser.until(lambda: self.browser.all('[role=option]'), 'a choice')
         before = self.requests()
         self.note(what, self.browser.driver.execute_async_script(TIMED % (PICK, READY)), before)
+        self.shares.append(self.asked()[before:])
 
     def find(self, what):
         self.browser.open('')
@@ -158,9 +166,10 @@ def main():
             figures.browser.quit()
     checks.holds('each was taken twice', all(len(one) == 2 for one in figures.rows.values()),
                  figures.rows)
-    checks.holds('a share asks the door once', all(
-        ', 1 request' in one for what, cells in figures.rows.items() if 'share' in what
-        for one in cells), figures.rows)
+    checks.holds('a share asks once what lies below, and as often however much that is',
+                 all(sum('/door/below/' in target for target in one) == 1
+                     and len(one) == len(figures.shares[0]) for one in figures.shares),
+                 figures.shares)
     for name in table:
         with open(name, 'w', encoding='utf-8') as out:
             for what, cells in figures.rows.items():
