@@ -341,6 +341,7 @@ class Nights:
         at.type(Keys.ENTER)
         self.bob.says('1 object put back')
         assert at.count <= 34, at.count
+        self.bob.until(lambda: at.focused() == 'Put kept.txt back', 'the focus there again')
 
     def quiet(self):
         for user in (self.bob, self.eve, self.alice):

@@ -92,6 +92,8 @@ class OnePerson:
         assert any('at /cases/one' in line and 'Loses' in line for line in said), said
         alice.press('Take out', 'dialog .actions')
         alice.says('Zoe Adams is taken out of 3 places.')
+        alice.until(lambda: alice.script(
+            "return document.activeElement.matches('.one-person > summary')"), 'the focus there')
         assert 'A:fd:zoe:rxtc' in self.own_of('/cases'), self.own_of('/cases')
         assert self.own_of('/cases/one') == [f'A:fd:alice:{ALL}'], self.own_of('/cases/one')
         assert self.own_of('/cases/one/inner') == [] and self.own_of('/cases/plan') == []

@@ -380,6 +380,7 @@ class Tasks:
         at.go('in')
         at.type(Keys.ENTER)
         self.alice.until(lambda: '/work/in' in self.alice.texts('dialog .where')[0], 'the place')
+        self.alice.until(lambda: self.alice.script(INSIDE, 'dialog .chooser'), 'the focus there')
         at.go('Move')
         at.type(Keys.ENTER)
         self.is_there('/work/in/plan.txt')

@@ -108,7 +108,7 @@ class EarlierView {
     const whole = { path: this.path, kind: 'folder' };
     const back = async () => {
       const now = await waitFor(kindNow(this.path));
-      if (await putBack(night, { ...whole, now })) await this.fill(night);
+      if (await putBack(night, { ...whole, now })) await this.fill(night, this.path);
     };
     this.all.replaceChildren(
       button(texts.earlier.getAll, () => get(night, whole).catch(tellNightFault)),
@@ -116,8 +116,16 @@ class EarlierView {
         { class: 'primary' }));
   }
 
-  async fill(night) {
-    const redraw = () => this.fill(night);
+  // The button by which something was put back has the focus again, once it is drawn anew.
+  focusAt(path) {
+    const row = [...this.body.querySelectorAll('tr')].find((one) => one.dataset.path === path);
+    const whole = path === this.path ? this.all.querySelector('.primary') : null;
+    (whole ?? (row ?? this.body).querySelector('[data-act=back]'))?.focus();
+  }
+
+  // 'path' is what was put back, if anything was.
+  async fill(night, path = null) {
+    const redraw = (back) => this.fill(night, back);
     try {
       const shown = await waitFor(folderRows(night, this.path, redraw).catch((fault) => {
         if (fault.body?.why !== 'wrong-kind') throw fault;
@@ -127,9 +135,11 @@ class EarlierView {
       if (shown) this.wholeFolder(night);
       this.body.replaceChildren(shown
         ?? await waitFor(documentShown(night, this.path, redraw)));
+      if (path !== null) this.focusAt(path);
     } catch (fault) {
       if (!this.isCurrent()) return;
-      this.body.replaceChildren(notShown(nightFault(fault) ?? texts.earlier.notShown, redraw));
+      this.body.replaceChildren(notShown(nightFault(fault) ?? texts.earlier.notShown,
+        () => redraw(null)));
       if (nightFault(fault) === null) tellNightFault(fault);
     }
   }

@@ -169,6 +169,6 @@ export function actsOf(night, object, name, redraw) {
   return [
     act('get', texts.earlier.get, texts.earlier.getOf(name), () => get(night, object)),
     act('back', texts.earlier.putBack, texts.earlier.putBackOf(name), async () => {
-      if (await putBack(night, object)) redraw();
+      if (await putBack(night, object)) redraw(object.path);
     })];
 }

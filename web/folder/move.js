@@ -16,6 +16,12 @@ function chooser(chosen, moved) {
   const folders = element('ul', { class: 'chooser', 'aria-label': texts.moving.folders });
   const line = (mark, name, path) => element('li', {},
     button([icon(mark), name], () => goTo(path), { class: 'object' }));
+  // What was pressed goes with its line: the first line has the focus then.
+  const draw = (...lines) => {
+    const isInside = folders.contains(document.activeElement);
+    folders.replaceChildren(...lines);
+    if (isInside) folders.querySelector('button')?.focus();
+  };
   const goTo = async (path) => {
     chosen.path = path;
     where.replaceChildren(
@@ -26,12 +32,12 @@ function chooser(chosen, moved) {
       if (chosen.path !== path) return;
       const inside = children.filter((child) => child.kind === 'folder')
         .map((child) => api.join(path, child.name)).filter((one) => !moved.includes(one));
-      folders.replaceChildren(...above,
+      draw(...above,
         ...inside.map((one) => line('folder', nameText(api.nameOf(one)), one)),
         ...inside.length > 0 ? []
           : [element('li', { class: 'hint' }, texts.moving.noFolders)]);
     } catch (fault) {
-      folders.replaceChildren(...above, element('li', { class: 'hint' }, sentenceOf(fault)));
+      draw(...above, element('li', { class: 'hint' }, sentenceOf(fault)));
     }
   };
   goTo(chosen.path);

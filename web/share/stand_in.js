@@ -74,5 +74,5 @@ export async function standIn(state, person, { lines }, again) {
   await sendEach(steps, { title: texts.person.standInTitle(person.name),
     told: texts.person.doneSomeOf, done: texts.person.standsIn(person.name, chosen.name,
       endWords(chosen.day.value), steps.length) }).catch(tellFault);
-  await again();
+  await again('.one-person > summary');
 }

@@ -32,5 +32,5 @@ export async function takeOut(state, person, { lines, others }, again) {
   if (chosen === null) return;
   await sendEach(chosen, { title: texts.person.takingOut(name), told: texts.person.doneSomeOf,
     done: texts.person.tookOut(name, chosen.length) }).catch(tellFault);
-  await again();
+  await again('.one-person > summary');
 }
