@@ -31,7 +31,7 @@ function nameOf(child, path, acts) {
   if (child.kind === 'folder') {
     return element('a', { class: 'object', href: linkTo(path), 'data-act': 'open' }, label);
   }
-  const [title, does] = isPdf(child.name) ? [texts.folder.openInTab, () => acts.open(child)]
+  const [title, does] = isPdf(child.name) ? [texts.folder.open, () => acts.open(child)]
     : [texts.acts.download, () => acts.download([child])];
   return button(label, does, { class: 'object', title, 'data-act': 'open' });
 }

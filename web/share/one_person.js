@@ -24,7 +24,7 @@ import { takeOut } from './take_out.js';
 const FEW = 6;
 
 const line = ({ path, words }, more = '') => element('li', {},
-  element('a', { href: linkTo(path, 'access') }, isolated(path)),
+  element('a', { href: linkTo(path, 'access') }, path === '/' ? texts.places.all : isolated(path)),
   element('span', { class: 'hint' }, `${words}${more}`));
 
 // The places with own lines of this person: those whose lists I may change, and others.
