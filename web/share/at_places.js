@@ -13,7 +13,7 @@ import { shortened } from '../text/who_is.js';
 import { isolated, sentenceOf } from '../text/words.js';
 import { noAnswerWords } from '../text/would_words.js';
 import { button, element } from '../ui/dom.js';
-import { showDialog, tell } from '../ui/messages.js';
+import { clearDone, showDialog, tell } from '../ui/messages.js';
 import { belowOf, perhapsIn, surely, withChanges } from './consequences.js';
 import { tellOutcome } from './outcome_view.js';
 import { objectsRound } from './passage.js';
@@ -42,6 +42,7 @@ async function sendOne({ path, before, next }) {
 // Sends each from below, since a list further up changes those in it, and tells where that was done
 // and where it wasn't. 'words' are {title, told, done}.
 export async function sendEach(steps, { title, told, done }) {
+  clearDone();
   const order = [...steps].sort((one, other) => other.path.length - one.path.length);
   const found = await inTurn(order, sendOne, { title, told });
   const open = [...found.failed.map((one) => one.object), ...found.left];

@@ -2,7 +2,7 @@
 
 import { texts } from '../language/language.js';
 import { button, element } from '../ui/dom.js';
-import { showDialog, tell, tellFault, waitFor } from '../ui/messages.js';
+import { clearDone, showDialog, tell, tellFault, waitFor } from '../ui/messages.js';
 import { followOutcome } from './consequences.js';
 import { changersOf } from '../net/door.js';
 import { whoCould } from '../ui/who_changed.js';
@@ -44,6 +44,7 @@ function tellDanger(send, { words, allTheSame }, { lock }) {
 // Sends a list with what was chosen beside it. Returns 'sent' or 'not sent', and tells why not.
 export async function deliver(state, next, told) {
   const main = { path: state.path, before: state.text, next };
+  clearDone();
   try {
     const { done, left, changed } = await waitFor(asWork(sendAll([...told.ways(), main])));
     if (done) await waitFor(asWork(dropAll(told.left(), state.looking)));

@@ -8,6 +8,11 @@ import { denialWords, sentenceOf } from '../text/words.js';
 
 const place = () => document.getElementById('notices');
 
+// Puts aside what was said to be done, as it may be so no longer.
+export function clearDone() {
+  for (const notice of place().querySelectorAll('.stays')) notice.remove();
+}
+
 // 'kind' is 'good' or 'bad'. Good news without buttons disappears by itself, all other stays until
 // it is closed.
 export function tell(kind, text, ...actions) {
@@ -15,7 +20,7 @@ export function tell(kind, text, ...actions) {
     { class: 'plain', 'aria-label': texts.messages.close });
   const said = element('p', {}, text);
   const stays = kind === 'good' && actions.length > 0 ? ' stays' : '';
-  if (stays) for (const old of place().querySelectorAll('.stays')) old.remove();
+  if (stays) clearDone();
   const notice = element('div', {
     class: `notice ${kind}${stays}`, 'data-text': text,
   }, icon(kind === 'bad' ? 'cross' : 'check'), said, actions, close);
