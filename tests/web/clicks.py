@@ -136,7 +136,7 @@ class Clicks:
             const keep = document.querySelector('.note-of button');
             return [...menus, ...(box && !box.disabled ? [['box']] : []),
               ...(keep ? [['keep']] : []),
-              ...(document.querySelector('.picker') ? [['add'], ['add'], ['add'], ['add']]
+              ...(document.querySelector('.adding .picker') ? [['add'], ['add'], ['add'], ['add']]
                 : [])];""")
 
     def click(self, control):
