@@ -45,18 +45,20 @@ export function extentsAt(said, places, caller, side) {
 // The nearest folder above that has a name.
 const namedAbove = (path) => path.slice(0, path.indexOf(`/${UNNAMED}`)) || '/';
 
+// These levels say of whoever makes something there what they may do with it.
+const OWN_SAID = ['change', 'remove', 'manage'];
+
 // What somebody owns that only follows its folder, where that gives them something else than what
-// others have there; whoever makes something there is told of with the folder: [{path, words}] with
-// the folder's path.
+// others have there, and the level doesn't say it: [{path, words}] with the folder's path.
 export function ownedAt(said, nodes, caller, side) {
   const at = (path) => said.at(path, caller, side);
   const isLike = (one, path) => at(one)?.mask === at(path).mask
     && at(one)?.removes === at(path).removes;
   const isApart = ({ path }) => {
     const folder = imagined(parentOf(path));
-    const makes = /[wa]/.test(at(parentOf(path))?.mask ?? '');
+    const level = said.extentAt(parentOf(path), 'folder', caller, side)?.level;
     return at(path) !== null && !isLike(folder.other, path)
-      && !(makes && isLike(folder.own, path));
+      && !(OWN_SAID.includes(level) && isLike(folder.own, path));
   };
   const found = nodes.filter((one) => one.path.includes(UNNAMED) && caller.user !== null
     && one.object.owner === caller.user && isApart(one)).map(({ path, kind }) => (
