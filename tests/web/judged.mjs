@@ -7,7 +7,7 @@
 // BY-HAND are written by hand. 'rooms review' before and after says what everybody gains and loses,
 // also outside of what changes: all of it has to be said, and nothing that isn't so. Where members
 // can't be looked up, that holds whoever is in which groups, of up to three. A line says of each
-// dialog in how many trees it was confirmed, and how many changes were 'unsaid' and 'not so'.
+// dialog in how many trees it was confirmed, and how many changes were unsaid, or said wrongly.
 import { fork } from 'node:child_process';
 import { cpSync } from 'node:fs';
 import { resolve } from 'node:path';
@@ -300,7 +300,7 @@ async function main() {
   const shown = new Map(all.flatMap((one) => [...one]));
   const after = reviewed();
   let faults = 0;
-  console.log('dialog,trees,compared,changes,unsaid,not so,questions,faults in them');
+  console.log('dialog,trees,compared,changes,unsaid,wrong,questions,faults');
   for (const dialog of dialogs) faults += told(dialog, turns, shown, { before, after, dump });
   console.log(`${faults} faults`);
   process.exit(faults === 0 ? 0 : 1);

@@ -110,7 +110,8 @@ export function unsaidAt({ text, claims, covers }, caller, one, had, has) {
   if (isTheirs && new RegExp(`${caller.name} also gains or loses .*“${folder}”`).test(text)) {
     return null;
   }
-  const lost = minus(had.letters, has.letters);
+  const lost = minus(had.letters, has.letters)
+    .filter((letter) => letter !== 'D' || one.kind !== 'document');
   const isOwnLost = isTheirs && text.includes(`${caller.name} can then no longer remove`);
   if (lost.length > 0 || (had.removes && !has.removes && !isOwnLost)) {
     if (!about.some((claim) => !claim.isGain && !claim.isKept)) {
