@@ -126,7 +126,7 @@ class Tree:
         self.pick('kim', 'person')
         alice.says('A list may have 64 entries of its own at most', 'Put people into a group',
                    css='.adding .outcome')
-        assert not alice.button('Share', '.adding').is_enabled()
+        assert alice.script("return document.querySelector('.adding .primary').disabled")
         assert self.own_of('/many') == lines
         alice.press('Cancel', '.adding')
         self.set_level('user7', 'gone')
