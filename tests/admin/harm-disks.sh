@@ -45,6 +45,8 @@ verb restore --room "$PWD/conf" latest
 says 'a server that runs' 2 'the server runs'
 verb restore --room "$PWD/conf" --start latest
 says 'with --start' 0 "restored $PWD/office/F"
+holds 'the way back starts it too' \
+  grep -q "to put it back: rooms-admin restore --start .*before-restore" "$work/out"
 unit_runs 'with --start'
 answers 'it is the backup' /doc/after \
   "json '404 Not Found' '{\"at\":\"/after\",\"why\":\"no-such\"}'"

@@ -202,8 +202,9 @@ class Restore:
         server.systemctl("reset-failed", self.room.unit)
         print(f"restored {self.room.file} from {backup}")
         if self.kept:
-            print(f"the old room is in {self.kept}; to put it back: rooms-admin restore {named}"
-                  f"{self.kept}")
+            served = "--start " if self.start or starts else ""
+            print(f"the old room is in {self.kept}; to put it back: rooms-admin restore {served}"
+                  f"{named}{self.kept}")
         if not self.start and not starts:
             print(f"to start the server: systemctl start {self.room.unit}")
 
