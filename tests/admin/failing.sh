@@ -152,10 +152,10 @@ chmod 755 "$stand/bin/slow"
 setting PROGRAM "$stand/bin/slow"
 (night) &
 for turn in {1..300}; do
-  ! grep -zqsF "$stand/bin/slow" /proc/[0-9]*/cmdline || break
+  # (in a form in which this line doesn't find itself)
+  ! cat /proc/[0-9]*/cmdline 2>"$work/null" | tr '\0' ' ' | grep -q 'bin/slo[w] verify' || break
   sleep 0.1
 done
-sleep 0.5
 holds 'while a copy is verified, others may work with the room' \
   flock -n run/.rooms-admin/rooms true
 wait "$!"

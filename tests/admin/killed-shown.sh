@@ -73,13 +73,15 @@ until_it() {
 }
 
 # It goes on until a signal comes, which is sent where it would sleep.
-# FLAGS is what nginx is told while it watches, and none before it once LIMIT is greater.
+# FLAGS is what nginx is told while it watches, and none before it once LIMIT is greater. The door
+# is told beside them what is left.
+no_flag='locks|[a-z]+[.]left([.]new)?'
 watch_it() { # NAME LEAST LIMIT FLAGS
-  flags() { ls run/rooms-full 2>/dev/null | grep -cvx locks; }
+  flags() { ls run/rooms-full 2>/dev/null | grep -cvxE "$no_flag"; }
   wanted=$4
   setting LIMIT "$3"
   ends() {
-    printf '%s\n' 'ls "$ROOMS_RUN/rooms-full" | grep -cvx locks >"$STAND/flags"' \
+    printf '%s\n' "ls \"\$ROOMS_RUN/rooms-full\" | grep -cvxE '$no_flag' >\"\$STAND/flags\"" \
       'kill -TERM $PPID' >"$stand/at-sleep"
   }
   before() {
@@ -105,7 +107,7 @@ watch_it() { # NAME LEAST LIMIT FLAGS
   again() {
     told "$1: the same command" 0
     holds "$1: the flag is as it should be" [ "$(cat "$stand/flags")" = "$wanted" ]
-    holds "$1: and goes with the watch" [ "$(flags)" = 0 ]
+    holds "$1: and goes with the watch" [ "$(flags)" = 0 -a ! -e run/rooms-full/office.left ]
   }
   words=(full --room "$PWD/office.conf")
   at_each_call "full, $1" "$2"
@@ -119,8 +121,8 @@ full_room() {
   # How its flag is called.
   words=(full --room "$PWD/office.conf")
   setting LIMIT 1
-  printf '%s\n' 'ls "$ROOMS_RUN/rooms-full" | grep -vx locks >"$STAND/flags"' 'kill -TERM $PPID' \
-    >"$stand/at-sleep"
+  printf '%s\n' "ls \"\$ROOMS_RUN/rooms-full\" | grep -vxE '$no_flag' >\"\$STAND/flags\"" \
+    'kill -TERM $PPID' >"$stand/at-sleep"
   verb "${words[@]}"
   told 'a full room' 0 'the room is full'
   cp "$stand/flags" flag
