@@ -8,6 +8,7 @@ import os
 import re
 import sys
 import zipfile
+from collections.abc import Callable
 from xml.parsers import expat
 
 from rooms_admin.host import commands, processes
@@ -97,12 +98,17 @@ def read(data: bytes) -> tuple[State, str]:
     return state, sink.text()
 
 
-def run() -> int:
+def answer(read_one: Callable[[bytes], tuple[State, str]], too_large: State) -> int:
+    """Reads the document on standard input, and writes its state and its text."""
     sys.stdout.buffer.write(READY)
     sys.stdout.buffer.flush()
     data = sys.stdin.buffer.read(LARGEST + 1)
-    state, text = read(data) if len(data) <= LARGEST else (State.LARGE, "")
+    state, text = read_one(data) if len(data) <= LARGEST else (too_large, "")
     sys.stdout.buffer.write(f"{state.value}\n{text}".encode("utf-8", "replace"))
     sys.stdout.buffer.flush()
     # What it has started goes with its unit.
     os._exit(0)
+
+
+def run() -> int:
+    return answer(read, State.LARGE)

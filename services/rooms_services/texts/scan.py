@@ -2,13 +2,11 @@
 by pictures of its pages and tesseract. It takes seconds for each page, so only a night has scans
 read, and no longer than its settings say."""
 import os
-import sys
 import tempfile
 
 from rooms_admin.host import commands
 
-from .extract import LARGEST, PICTURES
-from .feed import READY
+from .extract import PICTURES, answer
 from .sink import Full, Sink, State
 
 # Pages of a document, and the longest side of their pictures: 200 points an inch of A4.
@@ -76,11 +74,4 @@ def read(data: bytes) -> tuple[State, str]:
 
 
 def run() -> int:
-    sys.stdout.buffer.write(READY)
-    sys.stdout.buffer.flush()
-    data = sys.stdin.buffer.read(LARGEST + 1)
-    state, text = read(data) if len(data) <= LARGEST else (State.BLANK, "")
-    sys.stdout.buffer.write(f"{state.value}\n{text}".encode("utf-8", "replace"))
-    sys.stdout.buffer.flush()
-    # What it has started goes with its unit.
-    os._exit(0)
+    return answer(read, State.BLANK)
