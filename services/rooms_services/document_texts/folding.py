@@ -7,8 +7,9 @@ import unicodedata
 
 # Of a query: of how many letters and more a word is, and how many there are at most.
 SHORTEST, MOST_WORDS = 2, 8
-# What is shown of a text, before and behind the word that was found.
-BEFORE, BEHIND = 60, 100
+# What is shown of a text, before and behind the word that was found, and of that itself: any number
+# of marks may belong to a letter.
+BEFORE, BEHIND, WORD = 60, 100, 1000
 _BLANKS = re.compile(r"[\s\x00-\x1f\x7f]+")
 # A word that is parted at a line's end. What follows a 'Haupt-' is another word.
 _PARTED = re.compile(r"(?<=[^\W\d_])[-\u2010]\n\s*(?!(?:und|oder|bzw|sowie|and|or|et|ou)\b)"
@@ -63,9 +64,11 @@ def around(text: str, word: str) -> list[str]:
     at = folded(text).find(word)
     if at < 0:
         return []
-    begin, end = _place(text, at), _place(text, at + len(word) - 1) + 1
+    begin = _place(text, at)
+    most = min(len(text), begin + WORD)
+    end = min(_place(text, at + len(word) - 1) + 1, most)
     # What belongs to the last letter, such as a mark of its own.
-    while end < len(text) and not folded(text[end]):
+    while end < most and not folded(text[end]):
         end += 1
     return [text[max(0, begin - BEFORE):begin], text[begin:end], text[end:end + BEHIND]]
 

@@ -6,6 +6,7 @@ A line of JSON comes, and a line of JSON goes; both name the room, and the copy 
   {"do":"match","numbers":[..],"words":[..]} -> {"empty":N,"hits":[[NUMBER,COUNT]..],"night":..,
   "unknown":[..]}
   {"do":"sums","numbers":[..]} -> {"sums":[..]}
+  {"do":"parts","numbers":[..]} -> {"parts":[[PART ..]..]}
 and {"none":true} where it has no texts of this night."""
 import json
 import os
@@ -52,6 +53,8 @@ class Keeper:
             return {"none": True}
         if told["do"] == "sums":
             return {"sums": store.sums(map(int, numbers))}
+        if told["do"] == "parts":
+            return {"parts": store.parts(map(int, numbers))}
         words = told["words"]
         if told["do"] != "match" or not isinstance(words, list) or not (
                 0 < len(words) <= folding.MOST_WORDS):

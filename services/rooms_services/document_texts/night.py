@@ -51,10 +51,16 @@ class NobodyReads(Exception):
     """No process begins that reads a document."""
 
 
+# By its number, the folder in which a folder is, and its name.
+Above = dict[int, tuple[int, str]]
+
+
 class Document(NamedTuple):
-    """`data` is what the room keeps under its name, which is a list of parts where it has some."""
+    """`up` is the number of its folder, and `data` what the room keeps under its name, which is a
+    list of parts where it has some."""
     number: int
-    path: str
+    up: int
+    name: str
     data: bytes
     manifest: Manifest | None
     # All of it, as long as the copy is open; ValueError if parts lack, or were changed.
@@ -65,12 +71,12 @@ class Document(NamedTuple):
         return self.manifest is not None and self.manifest.size > LARGEST
 
 
-def documents(file: str) -> Iterator[Document]:
-    """Of a copy of a room. Whoever had its server in their hands may have written it."""
+def documents(file: str, above: Above) -> Iterator[Document]:
+    """Of a copy of a room. Whoever had its server in their hands may have written it. `above` has
+    the folders that came by then: paths may be many times as long."""
     with contextlib.closing(sqlite3.connect(file)) as room:
         # What the file says of its own tables runs no function of SQLite's.
         room.execute("PRAGMA trusted_schema = OFF")
-        above: dict[int, tuple[int, str]] = {}
         # (a folder's own come together)
         for up, some in groupby(objects_of_copy.objects(room), lambda one: one[1]):
             row = list(some)
@@ -82,7 +88,7 @@ def documents(file: str) -> Iterator[Document]:
                 elif name not in parts:
                     data = objects_of_copy.body(room, number)
                     manifest = in_parts.read(data)
-                    yield Document(number, _path(above, up, name), data, manifest,
+                    yield Document(number, up, name, data, manifest,
                                    partial(_whole, room, data, manifest, name, numbers))
 
 
@@ -99,25 +105,27 @@ def _whole(room: sqlite3.Connection, data: bytes, manifest: Manifest | None, nam
     return whole
 
 
-def _sum(one: Document) -> bytes:
-    """By which its text is known, if it is whole. A list of parts alone gives nobody a text: its
-    parts may be somebody else's."""
+def _sum(one: Document) -> tuple[bytes, frozenset[int]]:
+    """By which its text is known, and of which parts that is, if it is whole. A list of parts alone
+    gives nobody a text: its parts may be somebody else's. (Nor is such a list remembered: somebody
+    may have made a million.)"""
     total = sum_of(one.data)
     if one.manifest is None or one.is_too_large:
-        return total
+        return total, frozenset()
     try:
         one.whole()
     except ValueError:
-        return sum_of(b"not whole" + total)
-    return total
+        return sum_of(b"not whole" + total), frozenset()
+    return total, one.manifest.numbers
 
 
-def _path(above: dict[int, tuple[int, str]], up: int, name: str) -> str:
-    parts = [name]
+def _folder(above: Above, up: int) -> str:
+    """The path of a folder; nothing of the room's own."""
+    parts: list[str] = []
     while up and up in above:
         up, name = above[up]
-        parts.append(name)
-    return "/" + "/".join(reversed(parts))
+        parts.append(f"/{name}")
+    return "".join(reversed(parts))
 
 
 class Night:
@@ -132,7 +140,9 @@ class Night:
         # Since when.
         self._refused: float | None = None
         self._waits: deque[tuple[bytes, Future[tuple[State, str]]]] = deque()
-        self._sums: list[tuple[str, bytes]] = []
+        self._above: Above = {}
+        # Of each document its folder, its name, and by which its text is known.
+        self._sums: list[tuple[int, str, bytes]] = []
         self.read = self.scans = 0
 
     def _text(self, data: bytes) -> tuple[State, str]:
@@ -160,10 +170,10 @@ class Night:
         try:
             with ThreadPoolExecutor(AT_ONCE) as pool:
                 before = last.by_sum() if last and last.reader == VERSION else {}
-                for one in documents(file):
-                    total = _sum(one)
-                    making.note(one.number, total)
-                    self._sums.append((one.path, total))
+                for one in documents(file, self._above):
+                    total, parts = _sum(one)
+                    making.note(one.number, total, parts)
+                    self._sums.append((one.up, one.name, total))
                     if making.has(total):
                         continue
                     there = before.get(total)
@@ -212,8 +222,8 @@ class Night:
     def _have_scans_read(self, making: Making, file: str) -> None:
         """One after the other. Those of which it isn't the turn are scans in the next night too."""
         until = time.monotonic() + self._scans
-        for one in documents(file) if self._scans else ():
-            total = _sum(one)
+        for one in documents(file, {}) if self._scans else ():
+            total, _ = _sum(one)
             if making.state(total) is not State.NONE:
                 continue
             try:
@@ -233,7 +243,7 @@ class Night:
 
     def _keep(self, making: Making, at: int) -> Counter[State]:
         """It gets its name, and what was before goes."""
-        states = Counter(making.state(total) for _, total in self._sums)
+        states = Counter(making.state(total) for _, _, total in self._sums)
         self._write_list(making)
         place = nights.place(self.room, at)
         if os.path.lexists(place):
@@ -248,9 +258,12 @@ class Night:
         with open(f"{place}.new", "w", encoding="utf-8", errors="replace", newline="") as out:
             rows = csv.writer(out, lineterminator="\n")
             rows.writerow(("why", "path"))
-            for path, total in self._sums:
-                if (state := making.state(total)) is not State.WHOLE:
-                    rows.writerow((state.value, signs.laid_open(path)))
+            for up, some in groupby(self._sums, lambda one: one[0]):
+                above = ""
+                for _, name, total in some:
+                    if (state := making.state(total)) is not State.WHOLE:
+                        above = above or signs.laid_open(_folder(self._above, up))
+                        rows.writerow((state.value, f"{above}/{signs.laid_open(name)}"))
         os.rename(f"{place}.new", place)
 
 

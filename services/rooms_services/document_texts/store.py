@@ -1,6 +1,7 @@
 """The folded texts of a room's documents as one night found them: FOLDER/texts, in which they stand
-one after the other, and FOLDER/index, which says where. Both are made anew each night, of that
-night's documents alone: what was removed is in neither. Nothing in them is made of several
+one after the other, and FOLDER/index, which says where; FOLDER/parts says which parts the large
+ones are made of. They are made anew each night, of that night's documents alone: what was removed
+is in none. Nothing in them is made of several
 documents, so nothing that is answered of one depends on another. A document has the number that the
 night's copy gave it, and no name here."""
 import hashlib
@@ -64,13 +65,16 @@ class Making:
         self._size = 0
         self._by_sum: dict[bytes, Place] = {}
         self._rows: list[tuple[int, bytes]] = []
+        self._parts: dict[int, list[int]] = {}
 
     def has(self, total: bytes) -> bool:
         return total in self._by_sum
 
-    def note(self, number: int, total: bytes) -> None:
+    def note(self, number: int, total: bytes, parts: Iterable[int] = ()) -> None:
         """A document with these bytes, whose text is put before the end."""
         self._rows.append((number, total))
+        if parts := sorted(parts):
+            self._parts[number] = parts
 
     def put(self, total: bytes, state: State, folded: bytes) -> None:
         if len(folded) > MOST_FOLDED:
@@ -95,6 +99,9 @@ class Making:
                 at, length, state, _ = self._by_sum[total]
                 out.write(_ROW.pack(number, at, length, _STATES.index(state), total))
             _sync(out)
+        with open(f"{self._folder}/parts", "xb") as out:
+            out.write(json.dumps(self._parts).encode())
+            _sync(out)
         folder = os.open(self._folder, os.O_RDONLY)
         try:
             os.fsync(folder)
@@ -114,6 +121,14 @@ def _mapped(source: IO[bytes]) -> mmap.mmap | bytes:
     """None of it is held in memory while nobody asks for it."""
     size = os.fstat(source.fileno()).st_size
     return mmap.mmap(source.fileno(), size, access=mmap.ACCESS_READ) if size else b""
+
+
+def _parts_in(folder: str) -> dict[str, list[int]] | None:
+    try:
+        with open(f"{folder}/parts", "rb") as source:
+            return {number: list(map(int, some)) for number, some in json.load(source).items()}
+    except FileNotFoundError:
+        return None
 
 
 class Store:
@@ -145,6 +160,7 @@ class Store:
             self._texts = _mapped(source)
         if len(self._texts) != size:
             raise ValueError("the texts aren't whole")
+        self._parts = _parts_in(folder)
 
     def _each(self) -> Iterator[tuple[int, int, int, int, bytes]]:
         return _ROW.iter_unpack(memoryview(self._rows)[self._begin:])
@@ -182,6 +198,11 @@ class Store:
             if all(word in text for word in words):
                 hits.append(Hit(number, sum(map(text.count, words))))
         return Looked(hits, unknown, empty)
+
+    def parts(self, numbers: Iterable[int]) -> list[list[int] | None]:
+        """The numbers of those of each; nothing where a night of before hasn't said that."""
+        return [None if self._parts is None else self._parts.get(str(number), [])
+                for number in numbers]
 
     def sums(self, numbers: Iterable[int]) -> list[str]:
         """Nothing for one that isn't there."""
