@@ -15,12 +15,14 @@ import { showFolder } from './folder/folder.js';
 import { showNewest } from './folder/newest.js';
 import { showDocument } from './folder/preview.js';
 import { language, texts } from './language/language.js';
-import { linkTo, pathLinks, whereIs } from './ui/links.js';
-import { showList } from './advanced/list_view.js';
+import { linkTo, pathLinks } from './ui/links.js';
+import { whereIs } from './net/addresses.js';
+import { withSent } from './net/sent_first.js';
+import { showList } from './list_editor/list_view.js';
 import { keepClear } from './ui/covering.js';
 import { clearNotices, notShown, showWaiting, tellFault, waitFor } from './ui/messages.js';
 import { arrived, fullName, people } from './net/directory.js';
-import { showRights } from './advanced/my_rights.js';
+import { showRights } from './list_editor/my_rights.js';
 import { showAccess } from './share/share.js';
 import { marked } from './text/invisible.js';
 import { isWorking } from './ui/working.js';
@@ -134,13 +136,22 @@ window.addEventListener('beforeunload', (event) => {
 for (const kind of ['dragover', 'drop']) {
   window.addEventListener(kind, (event) => event.preventDefault());
 }
+// A link to what is open shows it anew, as after a search in it.
+document.querySelector('header').addEventListener('click', ({ target }) => {
+  const link = target instanceof Element && target.closest('a');
+  if (link && link.getAttribute('href') === (location.hash || '#/')) show();
+});
 document.getElementById('skip').addEventListener('click', (event) => {
   // The place follows the '#'.
   event.preventDefault();
   main.focus();
 });
-speak();
-keepClear(document.getElementById('notices'), document.getElementById('uploads'));
-whenWaiting(showWaiting);
-showMe();
-show();
+
+// 'replies' are those of requests that were sent already.
+export function begin(replies) {
+  withSent(replies, show);
+  speak();
+  keepClear(document.getElementById('notices'), document.getElementById('uploads'));
+  whenWaiting(showWaiting);
+  showMe();
+}

@@ -2,6 +2,7 @@
 import argparse
 import io
 import os
+import signal
 import sys
 from typing import Any
 
@@ -56,7 +57,7 @@ def _version() -> int:
 
 
 def _complete(command: str, words: list[str]) -> int:
-    from .verbs import completing
+    from . import completing
     print("".join(f"{one}\n" for one in completing.of(command, words)), end="")
     return 0
 
@@ -136,6 +137,8 @@ def _let_go_of_output() -> None:
 def main(words: list[str] | None = None, name: str = "") -> int:
     _open_output()
     report.catch_signals()
+    # Where whoever began this hears of no child that ends, each would seem to have ended well.
+    signal.signal(signal.SIGCHLD, signal.SIG_DFL)
     words = list(sys.argv[1:] if words is None else words)
     name = name or os.path.basename(sys.argv[0])
     try:

@@ -15,7 +15,7 @@ from against import Program  # noqa: E402
 from would import HEADER, Change, Counts, Kept, Rooms, Said, Wrong, judge, moves, sets  # noqa: E402
 
 from rooms_admin.lists import dump  # noqa: E402
-from rooms_admin.lists.would import moved, question, rows_of, set_list  # noqa: E402
+from rooms_admin.lists.would import moved, outcomes_of, question, set_list  # noqa: E402
 
 # How many objects weren't asked, for each question.
 alike: list[int] = []
@@ -37,7 +37,7 @@ def asked(kept: Kept, change: Change) -> Said:
     text = io.StringIO()
     table = csv.writer(text)
     table.writerow(HEADER)
-    for row in rows_of(made, kept.runs("would", text=made.text().decode())):
+    for row in outcomes_of(made, kept.runs("would", text=made.text().decode())):
         table.writerow([("yes" if one else "no") if isinstance(one, bool) else one for one in row])
     return Said(text.getvalue())
 

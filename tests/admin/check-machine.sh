@@ -22,6 +22,16 @@ checks 'one that ends soon' 1 'the certificate /etc/ssl/rooms.pem ends on ' \
   'docs/operating.md, Renewal'
 certificate -1
 checks 'one that has expired' 2 'the certificate /etc/ssl/rooms.pem has expired, on '
+certificate 90
+printf '%s\n' FILE=/none UNIT=rooms@hr HOST=hr.example >root/etc/rooms/hr.conf
+checks 'a room, which nobody serves, at a name that it is not for' 2 \
+  "no certificate: /etc/ssl/rooms.pem isn't for hr.example"
+rm root/etc/rooms/hr.conf
+echo 'HOSTS=rooms.office rooms.example' >>root/etc/rooms/site
+checks 'one of the names of the site' 0 'the certificate ends on '
+sed -i 's/^HOSTS=.*/HOSTS=rooms.office/' root/etc/rooms/site
+checks 'none of them' 1 "no certificate: /etc/ssl/rooms.pem isn't for rooms.office"
+sed -i '/^HOSTS=/d' root/etc/rooms/site
 echo none >root/etc/ssl/rooms.pem
 checks 'one that is none' 2 "the certificate /etc/ssl/rooms.pem can't be used"
 if [ "$(id -u)" = 0 ]; then
@@ -55,6 +65,20 @@ else
   skip 'a nightly run with a certificate that has expired' 'this user is not root'
 fi
 certificate 90
+settings MAIL=admin@office.example
+
+# nginx goes on with files that it would refuse at its next start.
+if [ "$(id -u)" = 0 ]; then
+  printf '%s\n' '2026/12/01 02:02:22 [warn] 28#28: could not build optimal proxy_headers_hash' \
+    '2026/12/01 02:02:22 [emerg] 28#28: unknown directive "lissten" in mine.conf:3' \
+    'nginx: configuration file /etc/nginx/nginx.conf test failed' >refused
+  checks 'files that nginx refuses' 2 "nginx refuses its files, and can't start again: \
+unknown directive \"lissten\" in mine.conf:3: mend that line"
+  : >refused
+else
+  skip 'files that nginx refuses' 'this user is not root'
+fi
+checks 'files that it takes' 0 'rooms OK'
 
 # Who is told of a unit.
 tells() { # UNIT

@@ -43,7 +43,7 @@ holds 'is asked by that' grep -qx 'docs.example /can/?' front.asked
 sed -i /UNENCRYPTED/d root/etc/rooms/site
 checks 'no TLS' 1 'rooms WARNING - passwords and documents travel unencrypted: rooms-admin setup'
 echo UNENCRYPTED=yes >>root/etc/rooms/site
-for status in 200 401 403; do
+for status in 200 401 403 404 502; do
   echo "$status" >front.status
   for field in '' 'Content-Security-Policy: default-src *' \
     'WWW-Authenticate: Basic realm="wiki"'; do
@@ -53,6 +53,7 @@ for status in 200 401 403; do
       "another site of nginx's answers for docs.example: HOSTS in /etc/rooms/site"
   done
 done
+echo 401 >front.status
 echo 'WWW-Authenticate: Basic realm="rooms"' >front.fields
 checks 'it asks for a password of rooms' 0 'rooms OK - office: answers, nginx answers, '
 ours
@@ -70,7 +71,8 @@ mv "$sock.away" "$sock"
 # A file that was made as root, which its server can't open.
 if [ "$STAND_USER" != "$(id -u)" ]; then
   chown 0 office/F
-  checks "root's file" 2 "$PWD/office/F isn't its server's, which can't open it: chown --reference="
+  checks "root's file" 2 \
+    "$PWD/office/F isn't its server's, which can't open it: chown -h --reference="
   chown "$STAND_USER:$STAND_USER" office/F
 fi
 
@@ -200,7 +202,8 @@ rm -r root/proc
 
 # Units, timers, mail, groups.
 echo 'rooms-standby@office.service loaded failed failed Standby copy' >failed
-checks 'a unit that failed' 2 'failed: rooms-standby@office.service'
+checks 'a unit that failed' 2 'failed: rooms-standby@office.service: systemctl status says why; '
+holds 'and how that goes' grep -q 'once that is mended: systemctl reset-failed' "$work/out"
 : >failed
 echo inactive >timer
 checks 'no nightly run' 1 'no nightly run is due: systemctl enable --now rooms-nightly@office.timer'

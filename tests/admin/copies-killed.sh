@@ -16,12 +16,16 @@ fi
 mkdir -m 1777 tmp
 
 # Where there is no space for a private copy, that disk is named, and there is no backup.
-if mkdir small && mount -t tmpfs -o size=1m,mode=1777 none small 2>/dev/null; then
-  head -c 2000000 /dev/zero >small/filler 2>/dev/null
+if mkdir small && mount -t tmpfs -o size=16m,mode=1777 none small 2>/dev/null; then
   rm -rf backups/office/*
   TMPDIR=$PWD/small night
+  told 'a private copy that would leave others no space' 1 \
+    "the backup can't be copied to $PWD/small: it needs 17 MB there, and 16 MB are free"
+  holds 'is no backup either' [ -z "$(find backups/office small -mindepth 1)" ]
+  head -c 20000000 /dev/zero >small/filler 2>/dev/null
+  TMPDIR=$PWD/small night
   told 'no space for a private copy' 1 \
-    "the backup can't be copied to $PWD/small: No space left on device"
+    "the backup can't be copied to $PWD/small: it needs 17 MB there, and 0 MB are free"
   holds 'is no backup' [ -z "$(ls backups/office)" ]
   TMPDIR=$PWD/small verb standby --room "$PWD/office.conf"
   told 'nor a standby copy' 1 "the disk of $PWD/small/"

@@ -115,6 +115,10 @@ printf '%s\n' 3 '["f/plan", 4100000000000, 4]' '["h/later/moved", 1700000000123,
   '["h/later/of another length", 1700000000124, 7]' >wanted
 LC_ALL=C sort "backups/conf/$(newest)/dates" >got
 same 'a backup has it' got wanted
+setting KEEP 1
+night
+holds "a night with one beyond KEEP: $(cat "$work/err")" [ "$status" = 0 ]
+holds 'of which nothing is left' [ "$(ls backups/conf)" = "$(newest)" ]
 unit stop
 verb restore --room "$PWD/conf" latest
 holds "a restore: $(cat "$work/err")" [ "$status" = 0 ]

@@ -310,6 +310,14 @@ where WAIT=2 >directory
 kill -STOP "$slapd"
 brings
 unchanged 'a directory that hangs' 1 'the directory failed: no answer within 2 seconds'
+# Nor is the room locked meanwhile by a run that has to start a server first.
+: >run/rooms-directory.rooms
+(brings) &
+run=$!
+until [ ! -e run/rooms-directory.rooms ] || [ ! -d "/proc/$run" ]; do sleep 0.05; done
+holds 'nobody waits for a run that waits for it' flock -w 1 run/.rooms-admin/rooms true
+holds 'which still does' [ -d "/proc/$run" ]
+wait "$run"
 kill -CONT "$slapd"
 stop_directory
 brings

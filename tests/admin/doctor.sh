@@ -147,6 +147,17 @@ if [ "$other" = yes ]; then
   told 'a folder of root' 1 "owner: $PWD/var belongs to root"
   bash -c "$(sed -n 's/.*: \(chown .*\)/\1/p' "$work/out")"
   well 'which is mended too'
+  # What the room's user has put there in its place leads to nothing that is given away.
+  cp var/F kept
+  for end in -wal ''; do
+    rm -f "var/F$end"
+    ln -s "$PWD/kept" "var/F$end"
+    doctor "$file"
+    told "a link in the place of F$end" 1 "not a room: $file$end is a link"
+    holds "of F$end nobody gets what it leads to" eval '! grep -q chown "$work/out"'
+    rm "var/F$end"
+  done
+  new_file
   chmod 400 var/F
   finds 'a file that is only read' 'fault: database' permission "$user can't write $file"
   bash -c "$(sed -n 's/.*: \(chmod .*\)/\1/p' "$work/out")"
@@ -156,7 +167,7 @@ if [ "$other" = yes ]; then
   chmod 600 var/F
   mkdir -m 700 shut
   doctor "$PWD/shut/F"
-  told 'a folder that is shut' 1 "permission: $user can't enter the folder $PWD/shut"
+  told 'a folder that is shut' 1 "permission: $user can't enter the folder $PWD/shut: is the name"
   new_file
 else
   skip "a room of another user" 'this user is not root, or no other user can run the program here'
@@ -176,6 +187,19 @@ chmod 600 var/F
 finds 'an empty file' 'refused: not a rooms file' 'not a room' "$file is empty"
 printf 'some text that is no database' >var/F
 finds 'a text' 'fault: database' 'not a room' "$file is no database"
+if [ "$other" = yes ]; then
+  chown root:root var var/F
+  chmod 755 var
+  for mode in 644 600; do
+    chmod $mode var/F
+    doctor "$file"
+    told "root's, of mode $mode, which isn't to be given away" 1 'not a room: '
+    holds "and nothing but that, $mode" eval '! grep -q chown "$work/out"'
+  done
+  chown 65534:65534 var var/F
+  chmod 700 var
+  chmod 600 var/F
+fi
 cat "$data/moved.1.db" >var/F
 finds 'an older room' 'refused: schema 1 is old' 'not a room' "$file is of another version"
 if has_sqlite; then
@@ -299,6 +323,25 @@ rows_are 'the same for a program' \
   '{"cause": "busy", "text": "'"$text: grep -H ^FILE= $PWD/settings/*.conf"'"}'
 holds 'and its status' [ "$status" = 1 ]
 rm settings/two.conf
+# A line by which nginx can't start again is none of a file that no room is.
+if [ "$(id -u)" = 0 ]; then
+  mkdir -p root/etc/nginx/sites-enabled
+  ln -s ../sites-available/rooms root/etc/nginx/sites-enabled/rooms
+  printf '#!/bin/sh\necho %s\nexit 1\n' "'nginx: [emerg] no \";\" in x.conf:3'" >bin/nginx
+  chmod 755 bin/nginx
+  export ROOMS_ROOT=$PWD/root
+  doctor "$file"
+  told 'files that nginx refuses' 1 "front end: nginx refuses its files, and can't start again: \
+no \";\" in x.conf:3: mend that line"
+  holds 'files that nginx refuses: no other cause' [ "$(wc -l <"$work/out")" = 1 ]
+  mv settings/one.conf kept
+  well 'and no room of settings'
+  mv kept settings/one.conf
+  unset ROOMS_ROOT
+  rm bin/nginx
+else
+  skip 'files that nginx refuses' 'this user is not root'
+fi
 well 'one room, in a folder that its unit may write'
 doctor "$file" --json
 rows_are 'nothing for a program'

@@ -24,7 +24,7 @@ chmod 755 bin/*
 head -c 3000000 /dev/urandom >room/office.rooms
 printf '%s\n' "FILE=$PWD/room/office.rooms" "BACKUPS=$PWD/disk" "PROGRAM=$PWD/bin/rooms" MAIL=root \
   KEEP=2 EARLIER=no >office.conf
-python3 -B "$here/lib/hanging_disk.py" "$PWD/back" "$PWD/disk" "$PWD/hangs" >said 2>&1 &
+python3 -B "$here/admin/hanging_disk.py" "$PWD/back" "$PWD/disk" "$PWD/hangs" >said 2>&1 &
 others+=("$!")
 began=$SECONDS
 until mountpoint -q disk || [ $((SECONDS - began)) -ge "$patience" ]; do sleep 0.1; done
@@ -32,10 +32,11 @@ if ! mountpoint -q disk; then
   skip 'a disk that hangs' "no mount: $(head -c 200 said)"
   return
 fi
-night() {
+admin() { # WORD ..
   PATH=$PWD/bin:$PATH ROOMS_RUN=$PWD/run ROOMS_ROOT=$PWD/root TMPDIR=$PWD/own \
-    python3 -IB "$repo/admin/rooms-admin" backup --room "$PWD/office.conf" >told 2>&1
+    python3 -IB "$repo/admin/rooms-admin" "$@" --room "$PWD/office.conf"
 }
+night() { admin backup >told 2>&1; }
 count() { ls back/office | grep -c '^[0-9.-]*$'; }
 ends() { # PROCESS
   local began=$SECONDS
@@ -46,15 +47,18 @@ for _ in 1 2; do
   status=$?
   holds "a night: $(tail -n 3 told)" [ "$status" = 0 ]
 done
-for call in MKDIR CREATE WRITE FSYNC RENAME; do
+hung() { # NAME PROCESS: the disk holds it, and it holds nobody
+  local began=$SECONDS
+  until [ -e hangs.seen ] || [ $((SECONDS - began)) -ge "$patience" ]; do sleep 0.1; done
+  holds "$1 waits" [ -d "/proc/$2" ]
+  holds "$1: the room is nobody's" flock -n run/.rooms-admin/rooms@office true
+}
+for call in MKDIR CREATE WRITE FSYNC 'FSYNC run' RENAME 'READ lists.txt' 'READ review.csv'; do
   rm -f hangs.seen
   echo "$call" >hangs
   night &
   run=$!
-  began=$SECONDS
-  until [ -e hangs.seen ] || [ $((SECONDS - began)) -ge "$patience" ]; do sleep 0.1; done
-  holds "$call hangs: the night waits" [ -d "/proc/$run" ]
-  holds "$call hangs: the room is nobody's" flock -n run/.rooms-admin/rooms@office true
+  hung "$call hangs: the night" "$run"
   rm hangs
   ends "$run"
   wait "$run"
@@ -64,6 +68,109 @@ for call in MKDIR CREATE WRITE FSYNC RENAME; do
   newest=$(ls -d back/office/[0-9]* | tail -n 1)
   same "$call hung: the newest is whole" "$newest/office.rooms" room/office.rooms
 done
+
+# It may begin to hang behind the last text that is read.
+rm -f hangs.seen
+echo 'READ lists.txt' >hangs
+night &
+run=$!
+hung 'a text is read: the night' "$run"
+echo READDIR >hangs
+sleep 0.5
+rm -f hangs.seen
+hung 'the number of the newest is asked for: the night' "$run"
+rm hangs
+ends "$run"
+wait "$run"
+status=$?
+holds "and the night ends: $(tail -n 3 told)" [ "$status" = 0 ]
+newest=$(ls -d back/office/[0-9]* | tail -n 1)
+holds 'whose number is known' grep -q "^group,user after .* ${newest##*/} of " \
+  root/var/lib/rooms-web/office/members.csv
+
+# Whoever reads a backup is told, and holds nobody meanwhile.
+kept=$(cksum <room/office.rooms)
+told_of() { # NAME CALL WORD ..
+  local name=$1
+  rm -f hangs.seen
+  echo "$2" >hangs
+  admin "${@:3}" >told 2>&1 &
+  run=$!
+  hung "$name" "$run"
+  ends "$run"
+  rm hangs
+  wait "$run"
+  status=$?
+  holds "$name ends: $(tail -n 1 told)" [ "$status" = 1 ]
+  holds "$name: it is told" grep -q "doesn't answer within 20 s: does its disk hang?" told
+}
+told_of 'a restore' 'READ office.rooms' restore latest
+left="$(ls room) $(cksum <room/office.rooms)"
+holds 'and the room is as it was' [ "$left" = "office.rooms $kept" ]
+told_of 'a restore that only looks' 'READ office.rooms' restore --dry-run latest
+told_of 'what each was given' 'READ review.csv' mine
+told_of 'a night that only says what it would do' LOOKUP backup --dry-run
+
+# A part of a log is a room too, as it was before: whatever a disk gives less of than it has is no
+# room.
+for word in restore get; do
+  echo 'SHORT office.rooms' >hangs
+  admin "$word" latest $([ "$word" = restore ] || echo /f) >told 2>&1
+  status=$?
+  rm hangs
+  holds "half a backup: $word" [ "$status" = 1 ]
+  holds "half a backup: $word: $(tail -n 1 told)" \
+    grep -q 'its disk gives 1500000 bytes less than it has' told
+  left="$(ls room) $(cksum <room/office.rooms)"
+  holds "half a backup: $word: the room is as it was" [ "$left" = "office.rooms $kept" ]
+done
+
+# Of a large room the files of what each was given are written before the room is locked.
+{
+  echo path,kind,user,rights,remove
+  seq 100000 299999 | sed 's#^\(.*\(...\)\)$#/d\1,folder,u\2,rwaC,yes#'
+} >"$newest/review.csv"
+admin mine >told 2>&1 &
+run=$!
+free=yes
+while [ -d "/proc/$run" ]; do flock -w 2 run/.rooms-admin/rooms@office sleep 0.05 || free=no; done
+wait "$run"
+status=$?
+holds "what each was given in a large room: $(tail -n 1 told)" [ "$status" = 0 ]
+holds 'and nobody waited for it' [ "$free" = yes ]
+
+# What a machine had is kept there before it is brought back, while all its rooms are locked.
+"$repo/deploy/install" --destdir "$PWD/root" --program "$PWD/bin/rooms" >/dev/null </dev/null
+sed -i "s#^PROGRAM=.*#PROGRAM=$PWD/bin/rooms#" root/etc/rooms/office.conf
+ROOMS_ROOT=$PWD/root python3 -IBc 'import sys
+sys.path.insert(0, sys.argv[1])
+from rooms_admin.machine_tar import machine
+machine.save("machine.tar", "9.9.9")' "$repo/admin"
+rmdir root/var/backups/rooms
+ln -s "$PWD/disk" root/var/backups/rooms
+for call in MKDIR WRITE RENAME; do
+  sed -i 's/^KEEP=.*/KEEP=9/' root/etc/rooms/office.conf
+  cksum <root/etc/rooms/office.conf >before
+  rm -f hangs.seen
+  echo "$call" >hangs
+  admin restore --machine "$PWD/machine.tar" >told 2>&1 &
+  run=$!
+  ends "$run"
+  rm hangs
+  wait "$run"
+  status=$?
+  holds "$call hangs: a machine isn't brought back: $(tail -n 1 told)" [ "$status" = 1 ]
+  holds "$call hangs: it is told" grep -q "doesn't answer within 20 s: does its disk hang?" told
+  cksum <root/etc/rooms/office.conf >after
+  same "$call hung: nothing was changed" after before
+done
+admin restore --machine "$PWD/machine.tar" >told 2>&1
+status=$?
+holds "and then it is: $(tail -n 3 told)" [ "$status" = 0 ]
+holds 'and what was there is kept' [ "$(ls back | grep -v office)" != '' ]
+holds 'and nothing else' [ -z "$(ls back | grep -v -e '^office$' -e '^before-machine')" ]
+rm back/before-machine.*
+
 ls back/office >before
 for call in 'CREATE 28' 'WRITE 5' 'RENAME 30' 'READDIR 5'; do
   : >mailed

@@ -46,6 +46,17 @@ printed 'with what comes from above' list:a A:fd:bob:rxtc "A:fdI:alice:$ALL"
 sets $'list:a\nA:fd:bob:rxtc' /letters
 says 'the same again' 0 'nothing to change'
 stops_are 'stops nothing' 0
+
+# A name that nobody has is most often mistyped. Dates have names of their own, and no mask.
+sets "$(printf '%s\n' list:a A::alise:r A:fdg:staff:r A::alice:r A::OWNER@:r \
+  A:g:until.2027-01-01.read.u.eve@alice:)" /letters --dry-run
+says 'a name that nobody has' 0 'nobody is called alise; did you mean alice?'
+says 'a group that nobody is in' 0 'nobody is in staff'
+holds 'nobody else is told of' [ "$(grep -c 'nobody is' "$work/err")" = 2 ]
+setting PASSWORDS directory
+sets $'list:a\nA::alise:r' /letters --dry-run
+holds 'users of a directory are known there' [ "$(grep -c 'nobody is' "$work/err")" = 0 ]
+setting PASSWORDS file
 sets $'list:a\nU:fdF:EVERYONE@:rx' --sacl '/a b'
 ended_well 'what is recorded'
 printed 'is set' '+ U:fdF:EVERYONE@:rx' 'done'

@@ -209,8 +209,8 @@ room_verb user remove eve --to alice
 says 'and is nobody then' 1 'nobody: eve has no password in '
 room_verb user remove bob
 ended_well 'who is in groups'
-printed 'goes out of them' "no password for bob any more, in $passwords" 'groups 2, members 3' \
-  'folder alice staff /' A::bob:rwaxtc
+printed 'goes out of them' "no password for bob any more, in $passwords" '- sales,bob' \
+  '- staff,bob' 'groups 2, members 3' 'folder alice staff /' A::bob:rwaxtc
 stops_are 'with one stop' 1
 printf '%s\n' group,user "${first[@]}" >old.csv
 room_verb members "$PWD/old.csv"

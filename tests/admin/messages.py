@@ -19,9 +19,9 @@ SAID = {"Stop": (0, ""), "Refused": (0, ""), "Busy": (0, ""), "NoGroup": (0, "")
 # Lists of lines that are told.
 LISTS = {"undone", "failures", "lacks", "wrong"}
 # Modules whose functions give a line, or a level and a line.
-GIVES = {"health.py", "watched.py", "certificates.py"}
+GIVES = {"health.py", "watched.py", "front.py", "certificates.py"}
 # And what these return is a line, or several.
-RETURNS = {"health.py", "tidying.py"}
+RETURNS = {"health.py", "front.py", "tidying.py"}
 # These hand on what was caught, or what somebody else said.
 NOTHING = re.compile(r"[X:; ]*")
 

@@ -110,6 +110,7 @@ if has htpasswd; then
   holds 'who can be chosen at once' grep -q '"eve","zoe"\]' "$web/people.json"
   room_verb user remove zoe
   ended_well 'somebody leaves'
+  holds 'out of which groups is said' grep -qx -- '- clerks,zoe' "$work/out"
   people_are 'who can be chosen no more' "$few"
 
   # Many join at once: the server stops once, and whoever has no password gets one.

@@ -97,7 +97,7 @@ restores good
 says 'beside another run' 2 'busy'
 exec 8<&-
 restores --undo
-holds 'nothing to undo' [ "$status" = 0 ]
+says 'nothing to undo' 0 'nothing to undo: no restore of '
 unchanged 'nothing to undo'
 for tool in cat sync mkdir; do
   echo "$tool" >"$stand/no-tool"
@@ -124,6 +124,8 @@ holds 'the owner and the rights' \
 holds 'the backup is as it was' [ "$(cksum backups/good/*)" = "$(cat backup.sums)" ]
 kept=$(echo office/before-restore.*)
 holds 'the old files are aside' cmp -s "$kept/F" old.F
+restores --undo
+says 'it is done to its end' 0 "--start $PWD/$kept"
 unit start
 unit_runs 'a server of what was restored'
 unit stop

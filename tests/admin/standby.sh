@@ -100,8 +100,12 @@ rm -rf backups/conf/*
 # A standby copy is one file, with all that the log had. (Of a small room, from here on.)
 new_office
 put f
+mkdir backups/standby
+echo theirs >backups/standby/F
 stands
 holds 'a standby copy' [ "$status" = 0 ]
+holds 'leaves that of a machine whose standby this is' [ "$(cat backups/standby/F)" = theirs ]
+rm -r backups/standby
 holds 'is one file' [ "$(find backups -type f)" = backups/conf/standby/F ]
 holds 'which has the last document' has_document backups/conf/standby f
 holds 'nobody else may read it' [ -z "$(find backups/conf/* -perm /077)" ]

@@ -4,8 +4,10 @@ import argparse
 import builtins
 import contextlib
 import dataclasses
+import errno
 import io
 import os
+import pwd
 import re
 import signal
 import struct
@@ -24,15 +26,16 @@ ROOT = _MADE.name
 os.environ["ROOMS_ROOT"] = ROOT
 sys.path.insert(0, os.path.join(os.path.dirname(__file__), "..", "..", "admin"))
 
-from rooms_admin.host import locks, tempdirs, waiting  # noqa: E402
+from rooms_admin.host import changes, locks, safe, tempdirs, waiting  # noqa: E402
 from rooms_admin.room import health, program, published, server, settings  # noqa: E402
 from rooms_admin.passwords import passwords  # noqa: E402
-from rooms_admin.backup import backups, copying  # noqa: E402
+from rooms_admin.backup import backups, copying, dates  # noqa: E402
 from rooms_admin.lists import dump, records  # noqa: E402
 from rooms_admin.people import ended, handing_over, members  # noqa: E402
 from rooms_admin.directory import groups  # noqa: E402
 from rooms_admin.machine_tar import machine  # noqa: E402
-from rooms_admin.check import watched  # noqa: E402
+from rooms_admin.check import finding, watched  # noqa: E402
+from rooms_admin.site import setting_up  # noqa: E402
 from rooms_admin.cli.report import Stop  # noqa: E402
 from rooms_admin.room.size import Used  # noqa: E402
 from rooms_admin.directory.directory import Directory, Entry  # noqa: E402
@@ -70,6 +73,14 @@ class Deep(unittest.TestCase):
             make_deep(left)
             with tempdirs.folder("rooms-get"):
                 self.assertFalse(os.path.exists(left))
+
+    def test_so_does_what_a_door_has(self) -> None:
+        """Of a room that is removed."""
+        with tempfile.TemporaryDirectory() as root, contextlib.redirect_stdout(io.StringIO()):
+            os.mkdir(f"{root}/office")
+            make_deep(f"{root}/office")
+            changes.Changes(root, False).remove_folder("/office")
+            self.assertEqual(os.listdir(root), [])
 
 
 class Kept(unittest.TestCase):
@@ -126,6 +137,74 @@ class Kept(unittest.TestCase):
         self.assertIn("var/lib/rooms-passwords/rooms.htpasswd", found)
         self.assertLess(os.path.getsize(f"{ROOT}/machine.tar"), 64 << 20)
         self.assertEqual(len(lacks), 1)
+
+    def test_other_accounts_tables_and_jobs(self) -> None:
+        """A tar of more than 64 MB doesn't come back, and those are on the disk of backups."""
+        tables = f"{ROOT}/var/spool/cron/crontabs"
+        os.makedirs(tables)
+        self.put(f"{tables}/mallory", "# rooms" + "x" * (1 << 20))
+        self.put(f"{tables}/root", "0 3 * * * rooms-admin check\n")
+        for name, said in (("atq", "7\tSun a root\n8\tSun a mallory\n"),
+                           ("at", "rooms-admin user remove $2\n")):
+            self.put(f"{ROOT}/{name}", f"#!/bin/sh\ncat <<END\n{said}END\n")
+            os.chmod(f"{ROOT}/{name}", 0o755)
+        with unittest.mock.patch.dict(os.environ, {"PATH": f"{ROOT}:{os.environ['PATH']}"}):
+            about = machine._about("1.1.0")
+        self.assertLess(len(about), 10000)
+        self.assertIn("at 7\tSun a root\nrooms-admin user remove 7\n", about)
+        self.assertIn(f"{tables}/root:0 3 * * * rooms-admin check\n", about)
+        self.assertNotIn("mallory", about)
+
+
+class FullDisk(unittest.TestCase):
+    def test_somebody_is_shut_out(self) -> None:
+        """No file is made anew there."""
+        with tempfile.TemporaryDirectory() as at:
+            file = f"{at}/rooms.htpasswd"
+            before = b"# bob:\nbob:$2y$1\nbobby:$2y$2\nbob:again\ncarol:$2y$3\n"
+            with open(file, "wb") as made:
+                made.write(before)
+            full = OSError(errno.ENOSPC, "No space left on device")
+            with unittest.mock.patch.object(safe, "write_all", side_effect=full):
+                with self.assertRaises(OSError):
+                    passwords.put_lines(file, {"bob": None, "eve": b"$2y$4"})
+                self.assertEqual(passwords.put_lines(file, {"bob": None, "eve": None}), {"bob"})
+            with open(file, "rb") as source:
+                self.assertEqual(source.read(), b"# bob:\n#########\nbobby:$2y$2\n#########\n"
+                                 b"carol:$2y$3\n")
+            self.assertEqual((passwords.users(file), os.listdir(at)), (
+                {"# bob", "bobby", "carol"}, ["rooms.htpasswd"]))
+
+
+class Accounts(unittest.TestCase):
+    def test_one_of_a_persons_is_told(self) -> None:
+        """Such as one for bookings, which was there before."""
+        for number, shell, told in ((1001, "/bin/bash", True), (1001, "/usr/sbin/nologin", False),
+                                    (990, "/bin/sh", False)):
+            seen = pwd.struct_passwd(("", "x", number, number, "", "/", shell))
+            said = io.StringIO()
+            with unittest.mock.patch.object(setting_up, "getpwnam", return_value=seen), \
+                    contextlib.redirect_stderr(said):
+                setting_up._user(changes.Changes("", False))
+            self.assertEqual("not safe: somebody signs in as rooms, " in said.getvalue(), told)
+
+
+class Door(unittest.TestCase):
+    """Whoever is the door of a room by now may hold what runs as its user."""
+
+    def test_a_night_waits_no_longer_than_it_takes(self) -> None:
+        room = types.SimpleNamespace(name="office", notes_changes=True)
+        with tempfile.TemporaryDirectory() as at:
+            os.makedirs(f"{at}{dates.CHANGES}/office")
+            with open(f"{at}{dates.CHANGES}/office/dates.db", "w", encoding="ascii"), \
+                    open(f"{at}/held.py", "w", encoding="ascii") as made:
+                made.write("import os, signal\nprint('[1]', flush=True)\n"
+                           "os.kill(os.getpid(), signal.SIGSTOP)\n")
+            with unittest.mock.patch.multiple(dates, ROOT=at, _OF_DOOR=f"{at}/held.py",
+                                              _PATIENCE=2.0):
+                told = dates.keep(typing.cast(settings.Room, room), at)
+            self.assertEqual(told, f"{at} has no dates of documents: no answer within 2 s")
+            self.assertFalse(os.path.exists(f"{at}/dates"))
 
 
 class Log(unittest.TestCase):
@@ -186,9 +265,9 @@ class Held(unittest.TestCase):
                 self.assertEqual(health.patiently(room, fails), "no systemctl")
 
     def test_so_does_the_check(self) -> None:
-        def fails() -> list[watched.Finding]:
+        def fails() -> list[finding.Finding]:
             raise Stop("no systemctl")
-        self.assertEqual(watched.within(5, fails, "x"), [(watched.CRITICAL, "no systemctl")])
+        self.assertEqual(watched.within(5, fails, "x"), [(finding.CRITICAL, "no systemctl")])
 
     def test_no_start_is_waited_for_without_end(self) -> None:
         with tempfile.TemporaryDirectory() as folder:
@@ -230,7 +309,7 @@ def endless(wait: int) -> Directory:
         OPT_REFERRALS=0, OPT_NETWORK_TIMEOUT=0, OPT_TIMEOUT=0, OPT_X_TLS_REQUIRE_CERT=0,
         OPT_X_TLS_DEMAND=0, OPT_X_TLS_NEWCTX=0, initialize=lambda _uri: _Endless())
     where = types.SimpleNamespace(wait=wait, secret="", bind="", needs_starttls=False, uri="",
-                                  ca="")
+                                  authorities="")
     made.__dict__.update(_ldap=ldap, _asks=None, where=where)
     return made
 
@@ -324,8 +403,8 @@ class Rests(unittest.TestCase):
                 task, "ask", lambda _groups: {("staff", "alice")}))
             mocks.enter_context(contextlib.redirect_stderr(io.StringIO()))
             task.bring()
-            self.assertEqual(did[:6], ["looks", "stop", "change", "start", "+ staff,alice",
-                                       "- staff,bob"])
+            self.assertEqual(did, ["looks", "looks", "stop", "change", "start", "+ staff,alice",
+                                   "- staff,bob"])
             self.assertEqual(task.failures, ["it hangs"])
 
 

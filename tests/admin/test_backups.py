@@ -22,7 +22,7 @@ from rooms_admin.backup import backups, hours, texts, tidying  # noqa: E402
 from rooms_admin.lists import dump  # noqa: E402
 from rooms_admin.people import known, members, offered  # noqa: E402
 from rooms_admin.directory import groups  # noqa: E402
-from rooms_admin.verbs import backups as listing, latest  # noqa: E402
+from rooms_admin.backup import verb_backups, verb_latest  # noqa: E402
 from rooms_admin.cli.report import Refused, Stop  # noqa: E402
 from rooms_admin.room.keep import Keep, read  # noqa: E402
 from rooms_admin.backup.backups import Backup  # noqa: E402
@@ -121,6 +121,9 @@ class Hours(Folder):
 
 
 class Found(Folder):
+    def here(self, pairs: set[dump.Pair]) -> known.Known:
+        return known.here(self.room, pairs, known.newest_backup(self.room))
+
     def test_a_room_has_a_folder_of_its_own(self) -> None:
         self.assertEqual(backups.folder(self.room), f"{self.backups}/office")
         # As rooms-admin add names it.
@@ -150,8 +153,8 @@ class Found(Folder):
         self.backup("2026-01-02.040000", 8)
 
         @contextlib.contextmanager
-        def made(_room: object, folder: str, words: tuple[str, ...]) -> Iterator[IO[bytes]]:
-            self.assertEqual((os.path.basename(folder), words), ("2026-01-02.040000", ("dump",)))
+        def made(_room: object, folder: str, name: str) -> Iterator[IO[bytes]]:
+            self.assertEqual((os.path.basename(folder), name), ("2026-01-02.040000", texts.LISTS))
             yield io.BytesIO(b"member c d\n")
         run = groups.Run(self.room, argparse.Namespace(dry_run=True, force=False),
                          contextlib.ExitStack())
@@ -182,7 +185,7 @@ class Found(Folder):
                 self.assertIsNone(known.kept(self.room))
                 for shown in ("no", "names"):
                     room = dataclasses.replace(self.room, people=shown)
-                    self.assertEqual(offered.write(room, known.here(room, both)), [])
+                    self.assertEqual(offered.write(room, self.here(both)), [])
                     self.assertEqual((run.known(), known.newest(room).members), (both, both))
             # What isn't of this file is no news for groups.
             known.keep(self.room, known.Known({("a", "b")}, 0))
@@ -191,7 +194,7 @@ class Found(Folder):
                     self.assertRaises(Stop):
                 known.change(self.room, set(), both, set())
             self.assertIsNone(known.kept(self.room))
-            known.try_to_keep(self.room, known.here(self.room, both))
+            known.try_to_keep(self.room, self.here(both))
             os.replace(self.room.file, f"{self.room.file}.before")
             with open(self.room.file, "wb"):
                 self.assertEqual((run.known(), known.newest(self.room).members),
@@ -203,7 +206,7 @@ class Found(Folder):
             # Of an earlier version, without numbers.
             for name in ("2026-01-01.040000", "2026-01-02.040000"):
                 os.unlink(f"{self.backups}/office/{name}/run")
-            known.try_to_keep(self.room, known.here(self.room, both))
+            known.try_to_keep(self.room, self.here(both))
             self.assertEqual(run.known(), both)
             self.backup("2026-01-03.040000", 0, lists="member a later\n")
             self.assertEqual(run.known(), {("a", "later")})
@@ -212,7 +215,7 @@ class Found(Folder):
         self.backup("2026-01-01.040000", 7, lists="member staff alice\n")
         with unittest.mock.patch.object(server, "state", return_value="active"), \
                 unittest.mock.patch.object(published, "FOLDER", f"{self.home}/web"):
-            known.keep(self.room, known.here(self.room, set()))
+            known.keep(self.room, self.here(set()))
             path = f"{self.home}/web/office/{known.FILE}"
             for first, wanted in ((" after 7", {("a", "b")}), (" after 6", {("staff", "alice")}),
                                   ("", {("a", "b")})):
@@ -239,17 +242,17 @@ class Found(Folder):
                 unittest.mock.patch.object(published, "FOLDER", f"{self.home}/web"):
             self.assertEqual(known.newest(self.room).members, {("a", "new")})
             # What is known since counts more, whatever the clock says.
-            known.keep(self.room, known.here(self.room, {("a", "newest")}))
+            known.keep(self.room, self.here({("a", "newest")}))
             self.assertEqual(known.newest(self.room).members, {("a", "newest")})
             self.backup("2026-12-02.040000", 6, lists="member a night\n")
             self.assertEqual(known.newest(self.room).members, {("a", "night")})
         said = io.StringIO()
         given = argparse.Namespace(room=self.room.conf, file="lists.txt")
         with contextlib.redirect_stdout(said):
-            self.assertEqual(latest.run(given), 0)
+            self.assertEqual(verb_latest.run(given), 0)
         self.assertEqual(said.getvalue(), f"{self.backups}/office/2026-12-02.040000/lists.txt\n")
         given.file = "no-such.tar"
-        self.assertRaises(Refused, latest.run, given)
+        self.assertRaises(Refused, verb_latest.run, given)
 
     def test_one_that_is_wrong_keeps_none_from_being_found(self) -> None:
         good = self.backup("2026-01-02.040000", 5)
@@ -268,9 +271,13 @@ class Found(Folder):
                           "4.040000 is not root's alone",
                           "5.040000/office.rooms is not root's alone"])
         said = io.StringIO()
+        with contextlib.redirect_stderr(said):
+            self.assertEqual(backups.find(self.room, "latest"), good)
+        self.assertEqual(said.getvalue().count(": no backup: "), 4)
+        said = io.StringIO()
         with contextlib.redirect_stdout(said), contextlib.redirect_stderr(io.StringIO()):
             given = argparse.Namespace(room=self.room.conf, json=False, wanted="")
-            self.assertEqual(listing.run(given), 1)
+            self.assertEqual(verb_backups.run(given), 1)
         self.assertEqual(said.getvalue(), f"     5      1 MB  {good}  without records.csv, "
                          "lists.txt, review.csv\n")
 
@@ -390,11 +397,15 @@ class Goes(Folder):
         cut = self.backup("2026-01-04.040000", 5)
         with open(f"{cut}/unfinished", "w", encoding="ascii"):
             pass
+        # One that was going: of it there are lists and a number left.
+        with (unittest.mock.patch.object(os.path, "lexists", side_effect=[True, KeyboardInterrupt]),
+              self.assertRaises(KeyboardInterrupt)):
+            tidying.remove(self.room, self.backup("2026-01-05.040000", 4, lists="x\n"), "")
         with unittest.mock.patch.object(locks, "RUN", self.home):
             told = tidying.left(self.room, at)
         self.assertEqual(sorted(told), [
-            "interrupted: an earlier run was cut off, and left no backup of 2026-01-01.040000; "
-            "what it had copied is removed",
+            *(f"interrupted: an earlier run was cut off, and left no backup of 2026-01-0{day}"
+              ".040000; what it had copied is removed" for day in (1, 5)),
             "interrupted: an earlier run was cut off, and the backup of 2026-01-04.040000 may lack "
             "a part of what is written beside it"])
         self.assertEqual(sorted(os.listdir(f"{self.backups}/office")), [

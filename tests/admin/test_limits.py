@@ -13,7 +13,7 @@ sys.path.insert(0, os.path.join(os.path.dirname(__file__), "..", "..", "admin"))
 
 from rooms_admin.host import root  # noqa: E402
 from rooms_admin.room import fullness, limit, needs, size  # noqa: E402
-from rooms_admin.backup import night  # noqa: E402
+from rooms_admin.backup import night, texts  # noqa: E402
 from rooms_admin.check import watched  # noqa: E402
 from rooms_admin.room.needs import Need  # noqa: E402
 from test_backups import Folder  # noqa: E402
@@ -40,6 +40,24 @@ class Night(Folder):
             told, = self.night(status, text, word)
             self.assertNotIn("record takes", told)
         self.assertEqual(self.night(0, "", "audit"), [])
+
+
+class Review(Folder):
+    def test_rows_without_end(self) -> None:
+        """Names in lists times folders: whoever manages a folder decides how many."""
+        endless = f"{self.home}/endless"
+        with open(endless, "x", encoding="ascii") as made:
+            made.write("#!/bin/sh\nexec yes '/a,folder,bob,r,no'\n")
+        os.chmod(endless, 0o755)
+        run = night.Night(self.settings("office", PROGRAM=endless), NOTHING)
+        run.kept = self.backup("2026-11-30.040000", 1)
+        run.copied, run.memory = f"{self.home}/copy", 100
+        with open(run.copied, "w", encoding="ascii"), \
+                contextlib.redirect_stderr(io.StringIO()):
+            run.write_text(texts.REVIEW, "review", ["/"])
+        self.assertIn(f"it wrote more than 32 MB; the backup {run.kept} is sound, but it has no "
+                      "review.csv", run.failures[0])
+        self.assertNotIn(texts.REVIEW, os.listdir(run.kept))
 
 
 class Needs(Folder):

@@ -360,9 +360,24 @@ class Files(unittest.TestCase):
         published.FOLDER = os.path.join(held.name, "web")
         self.room = ROOM
 
+    def put(self, files: dict[str, bytes]) -> None:
+        published.put_folder(self.room, "mine", files, contextlib.nullcontext())
+
+    def test_a_room_that_somebody_has(self) -> None:
+        """Nothing is left of the files that were written, and the last ones stay."""
+        self.put({"bob.json": b"1"})
+        with unittest.mock.patch.object(locks, "FOLDER", f"{published.FOLDER}.locks"), \
+                locks.lock("rooms@office", 0, locks.FOLDER):
+            with self.assertRaises(locks.Busy):
+                published.put_folder(self.room, "mine", {"bob.json": b"2"},
+                                     locks.lock("rooms@office", 0, locks.FOLDER))
+        self.assertEqual(os.listdir(published.folder(self.room)), ["mine"])
+        with open(f"{published.folder(self.room)}/mine/bob.json", "rb") as source:
+            self.assertEqual(source.read(), b"1")
+
     def test_no_moment_without_the_folder(self) -> None:
         """Whoever opens a file finds a whole one, while the folder is exchanged again and again."""
-        published.put_folder(self.room, "mine", {"bob.json": b"0" * 5000})
+        self.put({"bob.json": b"0" * 5000})
         place = os.path.join(published.FOLDER, "office", "mine", "bob.json")
         # Processes of their own: threads would wait for one another.
         readers = [subprocess.Popen([sys.executable, "-c", _READER, place], stdin=subprocess.PIPE,
@@ -371,14 +386,14 @@ class Files(unittest.TestCase):
             assert one.stdout
             self.assertEqual(one.stdout.readline(), b"reads\n")
         for turn in range(60):
-            published.put_folder(self.room, "mine", {"bob.json": b"%d" % (turn % 10) * 5000})
+            self.put({"bob.json": b"%d" % (turn % 10) * 5000})
         for one in readers:
             self.assertEqual(one.communicate()[0], b"0 bad\n")
         self.assertEqual(os.listdir(os.path.join(published.FOLDER, "office")), ["mine"])
 
     def test_no_file_gets_elsewhere(self) -> None:
         with self.assertRaises(ValueError):
-            published.put_folder(self.room, "mine", {"../x.json": b""})
+            self.put({"../x.json": b""})
 
     def test_links_are_replaced_and_not_followed(self) -> None:
         target = os.path.join(os.path.dirname(published.FOLDER), "other")
@@ -387,7 +402,7 @@ class Files(unittest.TestCase):
         at = published.folder(self.room)
         for name in ("mine", ".mine.new"):
             os.symlink(target, os.path.join(at, name))
-        published.put_folder(self.room, "mine", {"bob.json": b"1"})
+        self.put({"bob.json": b"1"})
         self.assertFalse(os.path.islink(os.path.join(at, "mine")))
         self.assertEqual(os.listdir(at), ["mine"])
         self.assertEqual(os.listdir(target), ["kept"])

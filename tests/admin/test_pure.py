@@ -96,7 +96,7 @@ class Settings(unittest.TestCase):
             place = os.path.join(at, "room.conf")
 
             def read(*rows: str) -> settings.Room:
-                with open(place, "w", encoding="utf-8") as out:
+                with open(place, "w", encoding="utf-8", newline="\n") as out:
                     out.write("".join(row + "\n" for row in (f"FILE={at}/F", f"BACKUPS={at}",
                                                              "PROGRAM=/bin/true", *rows)))
                 return settings.room(place)
@@ -106,6 +106,11 @@ class Settings(unittest.TestCase):
             for bad in ('TITLE="All of them', "TITLE='", "TITLE=x\\", "KEEP=9\\", "TITLE= 'a",
                         'TITLE="a" "b', "TITLE='a'\t'", 'TITLE="a\\"', "# a folder C:\\"):
                 with self.assertRaisesRegex(Refused, "line 4 goes on in the next one", msg=bad):
+                    read(bad)
+            # A carriage return ends a line: what is behind it would be a variable of root's.
+            for bad in ("TITLE=x\rLD_PRELOAD=/x", "# x\rLD_PRELOAD=/x", "KEEP=9\r", "MAIL=\0",
+                        "TITLE='a'\rFILE=/x", "TITLE=x\x0b", "TITLE=x\x7f"):
+                with self.assertRaisesRegex(Refused, "line 4 has a control character", msg=bad):
                     read(bad)
             for bad in (f"FILE={at}/F ", f"FILE={at}/F\t", f"FILE={at}/a\\b", f'FILE="{at}/F"',
                         "PORT=65536", "PORT=70000"):

@@ -11,8 +11,7 @@ import tempfile
 import unittest
 
 from rooms_admin.room import settings
-from rooms_admin.lists import dump, end_dates, naming, reasons, records, review
-from rooms_admin.verbs import lists
+from rooms_admin.lists import dump, end_dates, naming, reasons, records, review, verb_lists
 from rooms_admin import __main__ as command
 from rooms_admin.cli.report import Stop
 
@@ -132,7 +131,7 @@ class Lists(unittest.TestCase):
 
     def test_the_lists_below_a_place_that_are_their_own(self) -> None:
         def below(path: bytes, which: str) -> list[bytes]:
-            return [one.path for one in lists.at(rows(), path, which)]
+            return [one.path for one in verb_lists.at(rows(), path, which)]
         self.assertEqual(below(b"/projects", "dacl"), [b"/projects", b"/projects/still"])
         self.assertEqual(below(b"/projects", "sacl"),
                          [b"/projects", b"/projects/of bob.txt", b"/projects/still"])
@@ -142,15 +141,15 @@ class Lists(unittest.TestCase):
         self.assertEqual(below(b"/projects/of bob.txt", ""), [b"/projects/of bob.txt"])
         # What a folder doesn't pass down is kept, and so the object's own.
         loose = DUMP.replace("list:a\nA:fd:bob:r", "list:\nA:fd:bob:r")
-        self.assertEqual([one.path for one in lists.at(rows(loose), b"/projects", "dacl")],
+        self.assertEqual([one.path for one in verb_lists.at(rows(loose), b"/projects", "dacl")],
                          [b"/projects", b"/projects/of bob.txt", b"/projects/still"])
 
     def test_the_longest(self) -> None:
-        one, which = lists.longest(rows())
+        one, which = verb_lists.longest(rows())
         self.assertEqual((one.path, which), (b"/projects", "dacl"))
-        one, which = lists.longest(rows(DUMP.replace("U::bob:r\n", "U::bob:r\n" * 4)))
+        one, which = verb_lists.longest(rows(DUMP.replace("U::bob:r\n", "U::bob:r\n" * 4)))
         self.assertEqual((one.path, which), (b"/projects/of bob.txt", "sacl"))
-        one, which = lists.longest(rows("folder a b /\ndacl\nlist:a\nsacl\nlist:a\n"))
+        one, which = verb_lists.longest(rows("folder a b /\ndacl\nlist:a\nsacl\nlist:a\n"))
         self.assertEqual((one.path, which), (b"/", "dacl"))
 
 

@@ -6,6 +6,7 @@ import os
 import pathlib
 import shutil
 import signal
+import socket
 import sys
 import tempfile
 import time
@@ -14,14 +15,15 @@ import unittest.mock
 
 from rooms_admin.cli import report, words
 from rooms_admin.host import at_socket, changes, locks, mail, waiting
-from rooms_admin.room import fullness, http_client, names, published, server, settings, size
+from rooms_admin.room import (fullness, http_client, names, published, server, settings, size,
+                              verb_full, verb_rooms)
 from rooms_admin.passwords import password_rules, passwords
 from rooms_admin.lists import dump
-from rooms_admin.people import users
+from rooms_admin.people import users, verb_user
 from rooms_admin.directory import guests
+from rooms_admin.machine_tar import machine
 from rooms_admin.site import password_files, template
-from rooms_admin.check import watched
-from rooms_admin.verbs import check, full, rooms, tell, user
+from rooms_admin.check import finding, verb_check, verb_tell
 from rooms_admin.cli.report import Refused, Stop
 
 
@@ -81,6 +83,12 @@ class Waiting(unittest.TestCase):
             assert isinstance(held, list)
             self.assertLessEqual(len(held), 5)
 
+    def test_nobody_waits_for_what_hangs(self) -> None:
+        """As whoever reads up to its end what a verb prints, such as a monitor of check."""
+        held = waiting.answer(60, lambda: [os.readlink(f"/proc/self/fd/{one}") for one in range(3)],
+                              "/mnt")
+        self.assertEqual(held, [os.devnull] * 3)
+
     def test_a_pipe_in_the_place_of_a_room(self) -> None:
         """Whoever runs the server may put one there: nobody waits for it."""
         with tempfile.TemporaryDirectory() as at:
@@ -106,7 +114,7 @@ class Told(unittest.TestCase):
         given = unittest.mock.Mock(unit="rooms-standby@office.service")
         with tempfile.TemporaryDirectory() as run, \
                 unittest.mock.patch.object(locks, "RUN", run), \
-                unittest.mock.patch.object(tell, "journal", return_value=[]), \
+                unittest.mock.patch.object(verb_tell, "journal", return_value=[]), \
                 unittest.mock.patch.object(shutil, "which", return_value="mail"), \
                 unittest.mock.patch.dict(os.environ, MONITOR_SERVICE_RESULT="exit-code"), \
                 unittest.mock.patch.object(mail, "deliver") as deliver:
@@ -117,8 +125,8 @@ class Told(unittest.TestCase):
                 return len(sent) > 1
             deliver.side_effect = send
             with self.assertRaises(Stop):
-                tell.run(given)
-            self.assertEqual([tell.run(given) for _ in range(2)], [0, 0])
+                verb_tell.run(given)
+            self.assertEqual([verb_tell.run(given) for _ in range(2)], [0, 0])
             self.assertEqual(len(sent), 2)
 
     def test_addresses(self) -> None:
@@ -142,7 +150,7 @@ class Printed(unittest.TestCase):
         bad, wanted = "a\u202eb\x1b]0;c", "a\\u202eb\\x1b]0;c"
         self.assertEqual(report.line(bad), wanted)
         self.assertEqual(dump.as_text(bad.encode()), wanted)
-        self.assertEqual(check._line([(watched.OK, bad)]), f"rooms OK - {wanted}")
+        self.assertEqual(verb_check._line([(finding.OK, bad)]), f"rooms OK - {wanted}")
         said = io.StringIO()
         with contextlib.redirect_stderr(said):
             report.say(bad)
@@ -156,7 +164,7 @@ class Printed(unittest.TestCase):
               contextlib.redirect_stdout(io.StringIO()) as out):
             pathlib.Path(home, "office.conf").write_text(f"FILE=/x\nTITLE={bad}\n",
                                                          encoding="utf-8")
-            rooms.run(unittest.mock.Mock(json=False))
+            verb_rooms.run(unittest.mock.Mock(json=False))
         self.assertIn(f"office  {wanted}  active", out.getvalue())
 
 
@@ -175,7 +183,7 @@ class Flags(unittest.TestCase):
                 unittest.mock.patch.object(sys, "stdout") as shown:
             shown.isatty.return_value = True
             with self.assertRaisesRegex(Refused, "rooms-admin full --look"):
-                full.run(unittest.mock.Mock(rooms=[], look=False, json=False))
+                verb_full.run(unittest.mock.Mock(rooms=[], look=False, json=False))
 
 
 class Passwords(unittest.TestCase):
@@ -312,7 +320,7 @@ class Guests(unittest.TestCase):
 class Words(unittest.TestCase):
     def typed(self, text: str) -> users.Words:
         """As they are typed."""
-        return user.read_words(words.read("user", user, text.split()))
+        return verb_user.read_words(words.read("user", verb_user, text.split()))
 
     def test_options_stand_anywhere(self) -> None:
         for given in ("add newbie --groups sales", "add --groups sales newbie",
@@ -387,3 +395,27 @@ class Sockets(unittest.TestCase):
             asked = at_socket.AtSocket(f"{at}/socket", 5)
             with contextlib.closing(asked), self.assertRaises(OSError):
                 asked.request("GET", "/")
+
+    def test_a_socket_that_systemd_made(self) -> None:
+        """In the place of a room's server nobody answers there; of a door it is the right one."""
+        with tempfile.TemporaryDirectory() as at, socket.socket(socket.AF_UNIX) as made, \
+                unittest.mock.patch("struct.unpack", return_value=(1, 0, 0)):
+            made.bind(f"{at}/socket")
+            made.listen()
+            with contextlib.closing(at_socket.AtServer(f"{at}/socket", 5)) as server, \
+                    self.assertRaises(ConnectionRefusedError):
+                server.connect()
+            with contextlib.closing(at_socket.AtSocket(f"{at}/socket", 5)) as door:
+                door.connect()
+
+
+class Packages(unittest.TestCase):
+    def test_what_pages_have_installed(self) -> None:
+        """It is named, so that a new machine gets it too."""
+        def all_installed(words: list[str]) -> str:
+            return "\n".join(f"installed package {one} 1" for one in words)
+        with unittest.mock.patch.object(machine, "printed", all_installed):
+            told = machine._packages()
+        for one in ("at", "bsd-mailx", "certbot", "cron", "logrotate", "openssh-client",
+                    "poppler-utils", "python3-ldap", "restic", "rsync", "sudo", "tesseract-ocr"):
+            self.assertIn(f"package {one} 1\n", told)

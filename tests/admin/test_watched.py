@@ -1,19 +1,23 @@
 """Parts of check and tell that need no room."""
+import contextlib
 import os
 import socketserver
+import ssl
+import subprocess
 import sys
 import tempfile
 import threading
 import time
 import unittest
 import unittest.mock
+from collections.abc import Iterator
 
 sys.path.insert(0, os.path.join(os.path.dirname(__file__), "..", "..", "admin"))
 
-from rooms_admin.host import locks, mail  # noqa: E402
+from rooms_admin.host import locks, mail, root  # noqa: E402
 from rooms_admin.room import health, server, settings  # noqa: E402
-from rooms_admin.check import watched  # noqa: E402
-from rooms_admin.verbs import tell  # noqa: E402
+from rooms_admin.check import finding, front, verb_tell, watched  # noqa: E402
+from rooms_admin.site import served  # noqa: E402
 
 
 class Answers(socketserver.StreamRequestHandler):
@@ -25,9 +29,29 @@ class Answers(socketserver.StreamRequestHandler):
         self.wfile.write(b"HTTP/1.1 200 OK\r\nContent-Length: 2\r\nConnection: close\r\n\r\n{}")
 
 
+def certify(file: str) -> None:
+    """A new certificate in a file, with its key."""
+    subprocess.run(
+        ["openssl", "req", "-x509", "-newkey", "ec", "-pkeyopt", "ec_paramgen_curve:P-256",
+         "-noenc", "-subj", "/CN=rooms.example", "-keyout", f"{file}.key", "-out", file],
+        check=True, stderr=subprocess.DEVNULL)
+
+
+@contextlib.contextmanager
+def by_tls(file: str) -> Iterator[str]:
+    """Whatever comes is shown the certificate that was read at the beginning."""
+    context = ssl.create_default_context(ssl.Purpose.CLIENT_AUTH)
+    context.load_cert_chain(file, f"{file}.key")
+    with socketserver.ThreadingTCPServer(("127.0.0.1", 0), Answers) as there:
+        there.socket = context.wrap_socket(there.socket, server_side=True)
+        threading.Thread(target=there.serve_forever, daemon=True).start()
+        yield f"127.0.0.1:{there.server_address[1]}"
+        there.shutdown()
+
+
 class Watched(unittest.TestCase):
     @staticmethod
-    def hangs() -> list[watched.Finding]:
+    def hangs() -> list[finding.Finding]:
         time.sleep(60)
         return []
 
@@ -42,9 +66,31 @@ class Watched(unittest.TestCase):
                          [(1, "x" * 100_000)])
 
     def test_a_look_that_fails(self) -> None:
-        def fails() -> list[watched.Finding]:
+        def fails() -> list[finding.Finding]:
             raise OSError("no")
         self.assertEqual(watched.within(60, fails, "/mnt"), [(2, "/mnt can't be looked at")])
+
+    def test_a_certificate_that_nginx_has_not_read(self) -> None:
+        with tempfile.TemporaryDirectory() as home, \
+                unittest.mock.patch.object(root, "ROOT", home):
+            os.makedirs(f"{home}/etc/nginx/sites-enabled")
+            os.makedirs(f"{home}/etc/rooms")
+            with open(f"{home}/etc/rooms/site", "w", encoding="ascii") as site:
+                site.write("HOSTS=rooms.example\n")
+            certify(f"{home}/rooms.pem")
+            with by_tls(f"{home}/rooms.pem") as place, \
+                    unittest.mock.patch.object(served, "FRONT", place):
+                open(f"{home}/etc/nginx/sites-enabled/rooms", "w", encoding="ascii").close()
+                self.assertEqual(served.see_renewal("/rooms.pem"), "")
+                certify(f"{home}/rooms.pem")
+                self.assertEqual(served.see_renewal("/rooms.pem"), "nginx has another certificate "
+                                 "than /rooms.pem: systemctl reload nginx")
+                os.unlink(f"{home}/etc/nginx/sites-enabled/rooms")
+                self.assertEqual(served.see_renewal("/rooms.pem"), "")
+            # Where nobody answers another look says so.
+            open(f"{home}/etc/nginx/sites-enabled/rooms", "w", encoding="ascii").close()
+            with unittest.mock.patch.object(served, "FRONT", "127.0.0.1:1"):
+                self.assertEqual(served.see_renewal("/rooms.pem"), "")
 
     def test_a_room_is_asked_where_it_listens(self) -> None:
         """At its socket. The server of a unit of somebody's own may have a port in its place; one
@@ -110,15 +156,44 @@ class Watched(unittest.TestCase):
                 (2, "rooms@office was stopped by a verb that was cut off: rooms-admin groups "
                  "--after --room office")])
 
+    def test_what_nginx_says_of_its_files(self) -> None:
+        """Its first line that is no warning; nothing where it shows no room, or to others than
+        root; and it isn't waited for."""
+        with tempfile.TemporaryDirectory() as place, \
+                unittest.mock.patch.dict(os.environ, PATH=f"{place}:{os.environ['PATH']}"), \
+                unittest.mock.patch.object(root, "ROOT", place), \
+                unittest.mock.patch.object(os, "geteuid", return_value=0) as who:
+            def nginx(script: str) -> list[finding.Finding]:
+                with open(f"{place}/nginx", "w", encoding="ascii") as file:
+                    file.write(f"#!/bin/sh\n{script}\n")
+                os.chmod(f"{place}/nginx", 0o755)
+                return front.see_files()
+
+            refuses = ("[ \"$*\" = '-t -q' ] || exit 0; printf '%s\\n' '2026/12/01 [warn] 8#8: a' "
+                       "'2026/12/01 [emerg] 8#8: b' 'nginx: c'; exit 1")
+            self.assertEqual(nginx(refuses), [])
+            os.makedirs(f"{place}/etc/nginx/sites-enabled")
+            os.symlink("../sites-available/rooms", f"{place}/etc/nginx/sites-enabled/rooms")
+            self.assertEqual(nginx(refuses), [
+                (2, "nginx refuses its files, and can't start again: b: mend that line, "
+                 "and look by nginx -t")])
+            self.assertIn(" again: b: ", nginx("echo 'nginx: [emerg] b'; exit 1")[0][1])
+            self.assertEqual(nginx("echo 'nginx: [warn] a'"), [])
+            self.assertIn("it says nothing", nginx("exit 1")[0][1])
+            with unittest.mock.patch.object(front, "PATIENCE", 0.2):
+                self.assertEqual(nginx("exec sleep 60"), [(1, "nginx takes more than 0 s")])
+            who.return_value = 1000
+            self.assertEqual(nginx(refuses), [])
+
     def test_who_is_mailed(self) -> None:
         with tempfile.TemporaryDirectory() as home:
             settings.HOME = home
-            self.assertEqual(tell.mail_of("office"), "root")
+            self.assertEqual(verb_tell.mail_of("office"), "root")
             for text, wanted in (("MAIL=root\nMAIL=alice\n", "alice"), ("MAIL=\n", ""),
                                  ("MAIL=-x\n", ""), ("LIMIT=much\n", "root")):
                 with open(f"{home}/office.conf", "w", encoding="ascii") as file:
                     file.write(text)
-                self.assertEqual(tell.mail_of("other"), wanted)
+                self.assertEqual(verb_tell.mail_of("other"), wanted)
 
     def test_a_name_stands_for_its_settings(self) -> None:
         settings.HOME = "/etc/rooms"

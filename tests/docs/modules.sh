@@ -109,12 +109,16 @@ echo "import { two } from '../b/two.js';" >house/low/a/one.js
 printf '%s\n' "import {" "  three," "} from './three.js';" >house/low/b/two.js
 echo "const later = () => import('./two.js');" >house/low/b/three.js
 echo 'from . import four' >house/low/c/five.py
+echo 'from ..b import six' >house/low/a/verb_of_all.py
+echo 'from ..a import verb_of_all' >house/low/b/seven.py
+touch house/low/b/six.py
 house/tools/modules --write
 house/tools/modules --check >found
 status=$?
 holds 'the status of what is wrong' [ "$status" = 1 ]
 printf '%s\n' 'modules.txt has no line for low/c' \
-  "low/a/one.js names low/b/two.js, which stands behind it in modules.txt" >wanted
+  "low/a/one.js names low/b/two.js, which stands behind it in modules.txt" \
+  "low/b/seven.py names low/a/verb_of_all.py, which stands behind it in modules.txt" >wanted
 grep -v '^these name one another: ' found | cmp -s - wanted
 status=$?
 holds "a folder without a line, and an import that goes up: $(cat found)" [ "$status" = 0 ]

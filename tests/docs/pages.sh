@@ -102,7 +102,7 @@ none 'links of the installed pages' found
 
 if has python3; then
   (cd "$top" &&
-    "$here/lib/twice.py" "$data/twice.txt" README.md CHANGELOG.md CONTRIBUTING.md \
+    "$here/docs/twice.py" "$data/twice.txt" README.md CHANGELOG.md CONTRIBUTING.md \
     docs/*.md) >found 2>&1
   none 'what stands on two pages' found
   "$top/tools/crates" --check >found
@@ -173,13 +173,13 @@ if has python3; then
     'seven eight nine ten eleven twelve' 'thirteen fourteen' '' 'a b c d e f g h i j k l' \
     '| its one more that is there again and it is allowed here | |' >second.md
   echo 'it'"'"'s one more that is there again, and it is allowed here: why' >allowed
-  "$here/lib/twice.py" allowed first.md second.md >found
+  "$here/docs/twice.py" allowed first.md second.md >found
   status=$?
   echo 'first.md:1 and second.md: one two three four five six seven eight nine ten eleven twelve thirteen' >wanted
   same 'what stands on two pages' found wanted
   holds 'is refused' [ "$status" = 1 ]
   echo >second.md
-  "$here/lib/twice.py" allowed first.md second.md >found
+  "$here/docs/twice.py" allowed first.md second.md >found
   echo "no two pages need the exception 'its one more that is there again and it is allowed here'" \
     >wanted
   same 'an exception that nobody needs' found wanted

@@ -6,14 +6,15 @@ if ! has prove || ! has realpath; then
   return
 fi
 # Which part stands where, as README.md says.
-installs='lib/(front|machine|booted)[.]sh|deploy/install|--destdir|tools/package'
-(cd "$here" && grep -LE "$installs" install/*.sh) >found
-same 'what begins with nothing installed isn'"'"'t in install' found /dev/null
-(cd "$here" && grep -lE "^[^#]*(lib/(machine|booted)[.]sh|deploy/install. --|--destdir|dpkg)" \
-  admin/*.sh) >found
-same 'what installs isn'"'"'t in admin' found /dev/null
+installs='lib/(machine|booted)[.]sh|deploy/install|tools/package'
+(cd "$here" && grep -LE "$installs" machine/*.sh) >found
+same 'what installs nothing isn'"'"'t in machine' found /dev/null
+(cd "$here" && grep -LE 'lib/(front|earlier|door)[.]sh' nginx/*.sh) >found
+same 'what starts no nginx isn'"'"'t in nginx' found /dev/null
+(cd "$here" && grep -lE '^[^#]*(lib/(machine|booted)[.]sh|dpkg -)' {admin,program}/*.sh) >found
+same 'what needs a machine of its own isn'"'"'t in admin or program' found /dev/null
 
-mkdir -p house/{crates,tests/{docs,program,serving,admin,install,services,web},cache}
+mkdir -p house/{crates,tests/{docs,program,admin,nginx,machine,services,web},cache}
 cp -r "$here/run" "$here/lib" house/tests/
 printf '#!/bin/sh\n' >house/program
 chmod 755 house/program
@@ -54,13 +55,13 @@ holds 'its last line has the counts' [ "$(tail -n 1 "$work/out")" = '8 passed, 2
 holds 'what a part that is well says itself is not shown' \
   eval '! grep -q "what it says itself" "$work/out" "$work/err"'
 nothing_is_left 'after them'
-echo 'exit 3' | part serving/ends
-plays 'serving/ends docs/good'
-told 'one that ends before its end' 1 'FAILED serving/ends: it ended before its end' \
+echo 'exit 3' | part program/ends
+plays 'program/ends docs/good'
+told 'one that ends before its end' 1 'FAILED program/ends: it ended before its end' \
   '7 passed, 1 failed'
 
 # What failed last comes first, and then what took longest.
-plays --jobs 1 'docs/good serving/ends program/bad'
+plays --jobs 1 'docs/good program/ends program/bad'
 sed -n 's/^\([^ ]* \)*\([a-z]*\/[a-z]*\)[.]sh [.].*/\2/p' "$work/out" >ran
 holds "in that order: $(tr '\n' ' ' <ran)" [ "$(tail -n 1 ran)" = docs/good ]
 
@@ -84,7 +85,7 @@ if [ "$(id -u)" != 0 ] || ! unshare --mount --net --pid --fork true 2>/dev/null;
   skip 'a part that is killed' 'no root, or no namespaces'
   return
 fi
-part serving/killed <<END
+part program/killed <<END
 mkdir small
 mount -t tmpfs none small
 echo left >/var/tmp/left
@@ -94,7 +95,7 @@ until [ -e "$PWD/goes" ]; do sleep 0.05; done
 kill -KILL \$\$
 sleep 98764
 END
-(plays 'serving/killed docs/good'; echo "$status" >ended) &
+(plays 'program/killed docs/good'; echo "$status" >ended) &
 playing=$!
 until [ -e begun ] || ! kill -0 "$playing" 2>/dev/null; do sleep 0.05; done
 left() { ps -e -o args= | grep -c '^sleep 9876[45]'; }
@@ -107,14 +108,14 @@ holds 'it runs' becomes 1
 : >goes
 wait "$playing"
 status=$(<ended)
-told 'a part that is killed' 1 'FAILED serving/killed: it ended before its end' '7 passed, 1 failed'
+told 'a part that is killed' 1 'FAILED program/killed: it ended before its end' '7 passed, 1 failed'
 holds 'leaves no process' [ "$(left)" = 0 ]
 holds 'no mount' [ "$(grep -c "$PWD/house" /proc/self/mounts)" = 0 ]
 holds 'no file elsewhere' is_missing /var/tmp/left
 nothing_is_left 'of it'
 # The run itself, too.
 rm begun goes
-TMPDIR=$short house/tests/run house/program serving/killed docs/good >"$work/out" 2>&1 </dev/null &
+TMPDIR=$short house/tests/run house/program program/killed docs/good >"$work/out" 2>&1 </dev/null &
 playing=$!
 until [ -e begun ] || ! kill -0 "$playing" 2>/dev/null; do sleep 0.05; done
 holds 'it runs again' becomes 1

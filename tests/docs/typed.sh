@@ -1,6 +1,6 @@
 # Each block that the pages give an administrator is typed into a shell on a terminal, as a terminal
 # does it that doesn't know of pasted texts. So each line has to get to the shell, and none to a
-# command before it that reads from the terminal. The machine is that of install/package: a copy of
+# command before it that reads from the terminal. The machine is that of machine/package: a copy of
 # the folder ROOMS_DEBIAN, or one that debootstrap makes.
 
 top=$here/..
@@ -18,106 +18,7 @@ if ! "$top/tools/package" --program "$rooms" "$machine/root" >said 2>&1 </dev/nu
   return
 fi
 
-# A package that pages get from Debian, with one program, which prints nothing.
-stand_in_package() { # NAME PROGRAM
-  mkdir -p "stand-ins/$1/DEBIAN" "stand-ins/$1/usr/bin" "$machine/root/packages"
-  printf '%s\n' "Package: $1" 'Version: 1:99' 'Architecture: all' \
-    'Maintainer: nobody <nobody@localhost>' 'Description: stand-in' >"stand-ins/$1/DEBIAN/control"
-  { printf '#!/bin/sh\n' && cat; } >"stand-ins/$1/usr/bin/$1"
-  chmod 755 "stand-ins/$1/usr/bin/$1"
-  dpkg-deb --root-owner-group --build "stand-ins/$1" "$machine/root/packages/$1.deb" >said 2>&1 ||
-    return
-  {
-    cat "stand-ins/$1/DEBIAN/control" &&
-      printf '%s\n' "Filename: ./$1.deb" "Size: $(stat -c %s "$machine/root/packages/$1.deb")" \
-        "SHA256: $(sha256sum <"$machine/root/packages/$1.deb" | cut -d ' ' -f 1)" ''
-  } >>"$machine/root/packages/Packages"
-}
-# A program that the machine lacks.
-stand_in() { # NAME
-  [ -z "$(find "$machine"/{usr/,usr/local/,}{s,}bin -name "$1" -print -quit 2>/dev/null)" ] ||
-    return 0
-  { printf '#!/bin/sh\n' && cat; } >"$machine/usr/local/bin/$1"
-  chmod 755 "$machine/usr/local/bin/$1"
-}
-
-# Terminals for apt-get, which has dpkg at one of its own; passwords that are asked for; a shell
-# that tells of each command.
-furnish_terminal() {
-  printf '%s\n' 'APT::Sandbox::User "root";' \
-    'DPkg::Path "/usr/local/sbin:/usr/local/bin:/usr/sbin:/usr/bin:/sbin:/bin";' \
-    >"$machine/etc/apt/apt.conf.d/99rooms"
-  rm -f "$machine"/etc/apt/sources.list.d/*
-  echo 'deb [trusted=yes] file:/root/packages ./' >"$machine/etc/apt/sources.list"
-  echo 'set enable-bracketed-paste off' >>"$machine/etc/inputrc"
-  cat >"$machine/etc/bash.bashrc" <<'END'
-PS1='[typed]$ ' PS2='> '
-HISTCONTROL= HISTTIMEFORMAT=
-unset HISTFILE
-shopt -s cmdhist lithist
-typed() { printf '%s\n%s\n~\n' "$1" "$(history 1)" >>/srv/typed; }
-PS0='$(typed ">")' PROMPT_COMMAND='typed "=$?"'
-END
-  mkdir -p "$machine/dev/pts" "$machine/srv"
-  nsenter -t "$first" -m mount -t devpts -o newinstance,ptmxmode=0666 devpts "$machine/dev/pts" &&
-    ln -sf pts/ptmx "$machine/dev/ptmx"
-}
-stand_in_package at <<'END' || fail 'what is typed' "no stand-in: $(cat said)"
-{ cat; echo "at $*"; } >>/root/due
-END
-stand_in_package certbot <<'END' || fail 'what is typed' "no stand-in: $(cat said)"
-mkdir -p /etc/letsencrypt/live/rooms.example
-cp /etc/ssl/rooms.pem /etc/letsencrypt/live/rooms.example/fullchain.pem
-cp /etc/ssl/private/rooms.key /etc/letsencrypt/live/rooms.example/privkey.pem
-END
-for name in apache2-bin ldap-utils python3-ldap libapache2-mod-auth-gssapi \
-  libapache2-mod-auth-openidc rsync openssh-client bsd-mailx sudo; do
-  stand_in_package "$name" </dev/null || fail 'what is typed' "no stand-in: $(cat said)"
-done
-# Of Apache and of a directory there is just enough that they are asked: install/directory,
-# install/kerberos and install/session try what they do.
-mkdir -p "$machine/usr/lib/apache2/modules"
-echo >"$machine/usr/lib/apache2/modules/mod_authnz_ldap.so"
-printf '#!/bin/sh\n[ "$1" = -t ] || exec sleep 3600\n' >"$machine/usr/sbin/apache2"
-chmod 755 "$machine/usr/sbin/apache2"
-# What Python asks a directory with, by the program below.
-version_of_python=$(basename "$(readlink "$machine/usr/bin/python3")")
-modules=$machine/usr/local/lib/$version_of_python/dist-packages
-mkdir -p "$modules/ldap"
-cp "$here/lib/stand_in_ldap.py" "$modules/ldap/__init__.py"
-printf 'class SimplePagedResultsControl:\n    controlType = "x"\n    def __init__(self, *a, **b): pass\n' \
-  >"$modules/ldap/controls.py"
-printf 'def str2dn(text): return text\ndef dn2str(text): return text\n' \
-  >"$modules/ldap/dn.py"
-echo 'def escape_filter_chars(text): return text' \
-  >"$modules/ldap/filter.py"
-stand_in ldapsearch <<'END'
-groups=ou=groups,dc=example,dc=net
-case "$*" in
-  *'(cn=staff)'*) printf 'dn: cn=staff,%s\n\n' "$groups" ;;
-  *'(cn=Human Resources)'*) printf 'dn: cn=hr,%s\n\n' "$groups" ;;
-  *'-b cn=sales,'*) printf 'dn: cn=sales,%s\n\n' "$groups" ;;
-  *' member '*)
-    for name in staff hr sales; do
-      printf 'dn: cn=%s,%s\nmember: uid=alice,ou=people\n\n' "$name" "$groups"
-    done
-    ;;
-  *) printf 'dn: uid=%s,ou=people\nuid: %s\n\n' alice alice bob bob ;;
-esac
-END
-stand_in_package sqlite3 </dev/null || fail 'what is typed' "no stand-in: $(cat said)"
-stand_in_package smbclient <<'END' || fail 'what is typed' "no stand-in: $(cat said)"
-mkdir ' a ' && echo x >' a /b '
-END
-# A firewall, unless the machine has one: install/front tries what the rule does.
-if [ ! -e "$machine/usr/sbin/nft" ]; then
-  stand_in_package nftables </dev/null || fail 'what is typed' "no stand-in: $(cat said)"
-fi
-for name in nft update-ca-certificates journalctl; do stand_in "$name" </dev/null; done
-mkdir -p "$machine/root/deploy" "$machine/usr/local/share/ca-certificates"
-# At the top of a repository. What it does is tried by install/install.
-printf '#!/bin/sh\nexec rooms-admin setup "$@"\n' >"$machine/root/deploy/install"
-chmod 755 "$machine/root/deploy/install"
+. "$here/lib/stand-ins.sh"
 if ! furnish_terminal 2>said; then
   skip 'what is typed' "no terminals: $(head -c 200 said)"
   return
@@ -168,7 +69,7 @@ types() { # NAME PAGE TEXT ..
   done
   : >"$machine/srv/typed"
   rm -f log.faults
-  python3 "$here/lib/typed.py" "$machine/srv/typed" "$patience" "${sent[@]}" \
+  python3 "$here/docs/typed.py" "$machine/srv/typed" "$patience" "${sent[@]}" \
     -- nsenter -t "$first" -n -m -p chroot "$machine" /usr/bin/env -i HOME=/root \
     LC_ALL=C.UTF-8 TERM=dumb PATH=/usr/local/sbin:/usr/local/bin:/usr/sbin:/usr/bin:/sbin:/bin \
     bash -c "cd '$where' && exec bash -i" >"$work/out" 2>"$work/err" </dev/null
@@ -224,7 +125,7 @@ types 'groups' docs/operating 'cat >groups.csv'
 shows 'are taken' '+ sales,carol' 'groups 2, members 3'
 types 'lists' docs/operating 'list set / ' docs/operating 'list set --sacl'
 shows 'are taken' '+ A:g:staff:rxtc' '+ U:fdF:EVERYONE@:rx' 'done'
-# The mail program is one of these tests; install/package has the warning where there is none.
+# The mail program is one of these tests; machine/package has the warning where there is none.
 printf '#!/bin/sh\ncat >>/srv/mails\n' >"$machine/usr/local/bin/mail"
 chmod 755 "$machine/usr/local/bin/mail"
 statuses='[12]'
@@ -491,7 +392,7 @@ holds 'has nothing to add' [ "$(grep -c directory.apache "$work/out")" = 0 ]
 # The blocks of the README for who builds the program.
 block_of README tools/build >>typed
 block_of README .ci/run >>typed
-# Blocks of a new machine, and of what is copied for it: install/new-machine pastes them.
+# Blocks of a new machine, and of what is copied for it: machine/new-machine pastes them.
 for text in './rooms_' 'cp -a /mnt' 'do rooms-admin restore' reload-or-restart machine/about \
   'rooms-offsite <<' '/mnt/offsite --password-file' '/mnt/offsite restore' 'mkdir -m 700 /mnt' \
   '-ctime -90' ssh-keygen useradd rclone.program /srv/rooms-back -newermt '-mtime +400' \
@@ -500,12 +401,12 @@ for text in './rooms_' 'cp -a /mnt' 'do rooms-admin restore' reload-or-restart m
 done >>typed
 # What would come of a list, by last night's: docs/pasted-back pastes it.
 block_of docs/lists 'rooms-admin would set' >>typed
-# Blocks of several machines: install/machines, install/new-machine and admin/standby paste them.
+# Blocks of several machines: nginx/machines, machine/new-machine and admin/standby paste them.
 for text in 'certificate --machine' 'add --behind' 'add --on' \
   -mmin 'start "rooms-nightly@' 'now "rooms@$room"'; do
   block_of docs/machines "$text"
 done >>typed
-# The way back to 1.1.0: install/upgrade pastes it. Swap would be that of the machine below, which
+# The way back to 1.1.0: machine/upgrade pastes it. Swap would be that of the machine below, which
 # stays as it is: it is typed by hand.
 block_of docs/upgrading 'SOCKET=yes DOOR=yes' >>typed
 block_of docs/capacity fallocate >>typed

@@ -65,11 +65,9 @@ def named_in(file):
 
 def opened(folder):
     """What a browser asks for when somebody opens the page who was never there, up to the moment
-    when the folder is there. The script names the texts of each language, English first."""
-    files = named_in(f'{folder}/index.html')
-    files += [named_in(f'{folder}/{name}')[0] for name in files if name.endswith('.js')]
-    return ['/', *(f'/{name}' for name in files), '/me', '/people', '/can/?rxwaDtcCo', '/earlier/',
-            '/folder/', '/mine', '/me']
+    when the folder is there."""
+    return ['/', *(f'/{name}' for name in named_in(f'{folder}/index.html')), '/me', '/people',
+            '/can/?rxwaDtcCo', '/earlier/', '/folder/', '/mine', '/me']
 
 
 class Asks:

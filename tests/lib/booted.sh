@@ -102,7 +102,7 @@ sees_no_other() { # UNIT SOCKET
   local folder=$machine/etc/systemd/system/$1@.service.d
   rm -rf "$folder"
   mkdir -p "$folder"
-  cp "$here/install/beside.py" "$machine/usr/local/lib/"
+  cp "$here/machine/beside.py" "$machine/usr/local/lib/"
   printf '%s\n' '[Service]' ExecStart= 'ExecStart=/usr/bin/python3 -I /usr/local/lib/beside.py' \
     >"$folder/beside.conf"
   does "two of $1" "systemctl daemon-reload; python3 -I /usr/local/lib/beside.py $2

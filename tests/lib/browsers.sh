@@ -11,7 +11,7 @@ has chromedriver || lacking="$lacking chromedriver"
 [ -n "$python" ] || lacking="$lacking python3-selenium"
 
 # The modules by themselves, which plays ask for beside the page.
-[ -n "$lacking" ] || "$repo/deploy/bundle.py" "$installed/share/rooms/page"
+[ -n "$lacking" ] || "$repo/tools/bundle.py" "$installed/share/rooms/page"
 
 # Runs a play, and counts each check that it prints. A play that ends before its last line has
 # failed.

@@ -67,6 +67,14 @@ case "\$*" in
 esac
 END
 chmod 755 stand/bin/systemctl
+# What nginx says against its files.
+: >refused
+cat >stand/bin/nginx <<END
+#!/bin/sh
+[ "\$*" != '-t -q' ] || cat "$PWD/refused"
+[ ! -s "$PWD/refused" ]
+END
+chmod 755 stand/bin/nginx
 settings() { # LINE ..: those of office, and more
   printf '%s\n' "FILE=$PWD/office/F" "BACKUPS=$PWD/backups" \
     UNIT=rooms@office "PROGRAM=$rooms" "$@" >root/etc/rooms/office.conf

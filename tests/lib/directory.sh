@@ -119,7 +119,10 @@ start_apache() { # FILE-OF-SETTINGS
   mkdir -p run
   chmod 755 "$work" . machine
   rm -f run/pid
-  "$apache2" -f "$PWD/apache.conf" -DFOREGROUND >apache.out 2>&1 &
+  # As its unit has it.
+  mapfile -t -d ' ' surroundings < <(sed -n 's/^Environment=//p' \
+    "$repo/deploy/systemd/rooms-passwords.service" | tr '\n' ' ')
+  env "${surroundings[@]}" "$apache2" -f "$PWD/apache.conf" -DFOREGROUND >apache.out 2>&1 &
   httpd=$!
   others+=("$httpd")
   began=$SECONDS

@@ -5,8 +5,7 @@ doors=()
 start_would() { # [PROGRAM]
   [ ! -S run/would ] || return 0
   mkdir -p run
-  python3 "$here/lib/inetd.py" "$PWD/run/would" 8 sh "$here/lib/answer-would.sh" "${1:-$rooms}" \
-    2>>would.err &
+  python3 "$here/lib/answer_would.py" "$PWD/run/would" 8 "${1:-$rooms}" 2>>would.err &
   answering=$!
   others+=("$answering")
   until [ -S run/would ]; do sleep 0.02; done

@@ -176,7 +176,7 @@ says_all() { # USER:PASSWORD TARGET [MORE]
   local line
   answer "$1" "$2"
   for line in "$policy${3-}" 'X-Content-Type-Options: nosniff' 'Referrer-Policy: no-referrer' \
-    'Cross-Origin-Resource-Policy: same-origin'; do
+    'Cross-Origin-Resource-Policy: same-origin' 'Cross-Origin-Opener-Policy: same-origin'; do
     holds "$1 $base$2 says ${line%%:*}" grep -qxF "$line"$'\r' "$work/head"
   done
 }

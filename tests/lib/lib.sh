@@ -12,11 +12,22 @@ place_of_check() {
       place_of_check+="${place_of_check:+ }${BASH_SOURCE[n]#"$here/"}:${BASH_LINENO[n - 1]}"
   done
 }
+# Seconds that anything may take, 120 or up to 600: more where more processes want each processor.
+# Nothing waits for them where all is well.
+processors=$(nproc)
+follow_load() {
+  local load
+  read -r load _ </proc/loadavg
+  patience=$((120 * (1 + ${load%.*} / processors)))
+  [ "$patience" -le 600 ] || patience=600
+}
 # A line of TAP, whose name may hold what would end it.
 tap() { # ok|'not ok' NAME [MORE]
   local name=${2//$'\n'/ }
   name=${name//$'\r'/ }
   printf '%s - %s%s\n' "$1" "${name//#/ }" "${3-}" >>"${tap_file-$ROOMS_TAP}"
+  # What comes next may wait, and the load is another one by now.
+  follow_load
 }
 
 pass() { # [NAME]

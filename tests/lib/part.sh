@@ -23,13 +23,11 @@ server=
 proxy=
 stand=
 others=()
-# Seconds that anything may take on a machine that is busy. Nothing waits for them where all is
-# well.
-patience=120
 # No settings of the user's, and no proxy between the tests and the server.
 export HOME=$work no_proxy='*' NO_PROXY='*'
 unset http_proxy HTTP_PROXY https_proxy HTTPS_PROXY all_proxy ALL_PROXY
 . "$here/lib/lib.sh"
+follow_load
 . "$here/lib/http.sh"
 . "$here/lib/units.sh"
 # The parts have ports of their own where they have one network.

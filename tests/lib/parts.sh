@@ -2,7 +2,7 @@
 
 # Prints all of them, as program/groups.
 all_parts() {
-  (cd "$here" && ls {docs,program,serving,admin,install,services,web}/*.sh) | sed 's/[.]sh$//'
+  (cd "$here" && ls {docs,program,admin,nginx,machine,services,web}/*.sh) | sed 's/[.]sh$//'
 }
 # Prints the parts that a file of the repository has.
 parts_for() { # FILE

@@ -6,7 +6,7 @@ times=${XDG_CACHE_HOME:-${HOME:-/root}/.cache}/rooms-tests
 tap_of() { echo "$ROOMS_TESTS/tap/$(grep -nxF "$1" "$ROOMS_TESTS/parts" | cut -d: -f1)"; } # PART
 
 # Those that measure, which nothing else may slow down.
-measures() { [[ $1 = install/at-once || $1 = web/figures || $1 = services/large-speed ]]; } # PART
+measures() { [[ $1 = nginx/at-once || $1 = web/figures || $1 = services/large-speed ]]; } # PART
 
 # The parts of standard input: what failed, what was never played, and what took longest.
 in_order() {

@@ -44,24 +44,36 @@ class Load:
         self.asked = self.lost = self.twice = self.missing = 0
         self.longest = 0.0
 
-    def ask(self, method: str, target: str, body: bytes = b"") -> tuple[int, bytes]:
-        began = time.monotonic()
+    def _got(self, method: str, target: str, body: bytes = b"") -> tuple[int, bytes]:
         at = Connection(self.where)
         try:
             at.request(method, target, body, self.fields)
             got = at.getresponse()
-            status, text = got.status, got.read()
+            return got.status, got.read()
         except (OSError, http.client.HTTPException):
-            status, text = 0, b""
+            return 0, b""
         finally:
             at.close()
+
+    def ask(self, method: str, target: str, body: bytes = b"") -> int:
+        began = time.monotonic()
+        status, _ = self._got(method, target, body)
         with self.lock:
             self.asked += 1
             self.longest = max(self.longest, time.monotonic() - began)
             if status // 100 != 2:
                 self.lost += 1
                 print(f"{method} {target}: {status}", file=sys.stderr)
-        return status, text
+        return status
+
+    def text_of(self, place: str) -> bytes:
+        """Once the room is there again."""
+        until = time.monotonic() + 60
+        while True:
+            status, text = self._got("GET", place)
+            if status == 200 or time.monotonic() > until:
+                return text
+            time.sleep(0.1)
 
     def user(self, number: int) -> None:
         """Adds its turns to a document, and asks for other things between. (The door has sixteen of
@@ -72,14 +84,13 @@ class Load:
         while self.goes_on:
             turn += 1
             line = self.mark + b"%d" % turn
-            if self.ask("POST", place, line + b"\n")[0] == 204:
+            if self.ask("POST", place, line + b"\n") == 204:
                 answered.add(line)
             if number < 10 and turn % 5 == number % 5:
                 self.ask("GET", self.target)
             if turn % 10 == number % 10:
                 self.ask("PUT", f"{place}-large", b"x" * 1_048_576)
-        _, text = self.ask("GET", place)
-        lines = [line for line in text.split() if line.startswith(self.mark)]
+        lines = [line for line in self.text_of(place).split() if line.startswith(self.mark)]
         with self.lock:
             self.twice += len(lines) - len(set(lines))
             self.missing += len(answered - set(lines))

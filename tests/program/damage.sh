@@ -10,7 +10,7 @@ if [ "$loopback" = no ] || ! has python3 || ! has_sqlite ||
 fi
 # Thousands of commits wait for a disk, where no test is about the disk.
 folder=$(mktemp -d /dev/shm/rooms-damage.XXXXXX 2>/dev/null) || folder=$PWD
-python3 -B "$here/lib/damage.py" "$rooms" "$folder" "$((port + 1))" "$patience" >said 2>errors
+python3 -B "$here/program/damage.py" "$rooms" "$folder" "$((port + 1))" "$patience" >said 2>errors
 [ "$folder" = "$PWD" ] || rm -rf "$folder"
 port=$((port + 200))
 if [[ $(tail -n 1 said) =~ ^([0-9]+)\ held,\ ([0-9]+)\ broken$ ]]; then

@@ -54,6 +54,46 @@ rows='{"path":"/f/plan","size":5,"when":T,"who":"alice"}'
 printf '{"at":"/","found":[%s],"shows":"who"}' "$rows" >wanted
 same 'which it is' got wanted
 
+# Nor is anybody told of another document by a line that comes late: bob may move one that is closed
+# to him to where his own was, while nginx has other things to do.
+ask 'a folder of things that move' 201 '' alice:a /folder/way -X POST
+printf 'list:ap\nA:fd:alice:%s\nA:fd:bob:rwaxDtc\n' "$ALL" >list
+ask 'in which bob may move them' 204 '' alice:a /dacl/way -X PUT --data-binary @list
+ask 'a document' 201 '' alice:a /doc/way/closed -X PUT --data-binary 'of alice'
+printf 'list:p\nA::alice:%s\n' "$ALL" >list
+ask 'that is closed to him' 204 '' alice:a /dacl/way/closed -X PUT --data-binary @list
+ask 'and his own' 201 '' bob:b /doc/way/own -X PUT --data-binary 1
+rows='{"kind":"document","name":"closed","size":8,"when":T,"who":"alice"},'
+rows+='{"kind":"document","name":"own","size":1,"when":T,"who":"bob"}'
+is_now 'both are known' /way "$rows" alice:a
+read -r -a workers <"/proc/$proxy/task/$proxy/children"
+awaits() { # NUMBER: so many sockets of the room, of which the first is its own
+  local began=$SECONDS
+  until [ "$(grep -c 'run/rooms/office/socket$' /proc/net/unix)" = "$1" ] ||
+    [ $((SECONDS - began)) -ge 10 ]; do sleep 0.02; done
+}
+kill -STOP "$server"
+curl -s -o /dev/null -w '%{http_code}\n' -u bob:b -d '{"to":"/way/other"}' \
+  "$base/move/way/own" >met &
+moving=$!
+awaits 2
+curl -s --unix-socket run/door/office/socket -H 'Room-User: bob' -d '{"to":"/way/own"}' \
+  -o /dev/null -w '%{http_code}\n' http://x/door/move/way/closed >met.2 &
+second=$!
+awaits 3
+kill -STOP "${workers[@]}"
+kill -CONT "$server"
+wait "$second"
+kill -CONT "${workers[@]}"
+wait "$moving"
+holds 'both have moved' [ "$(cat met met.2 | tr '\n' ' ')" = '204 204 ' ]
+began=$SECONDS
+until grep -q '"p":"/move/way/own","s":"204"' $journal || [ $((SECONDS - began)) -ge 10 ]; do
+  sleep 0.05
+done
+ask 'bob looks' 200 - bob:b /door/folder/way
+holds "and is told nothing of alice's: $(cat "$work/body")" eval '! grep -q alice "$work/body"'
+
 # Who may not read what is behind a folder is told nothing of it, whatever happens there.
 ask 'a folder to list' 201 '' alice:a /folder/front -X POST
 ask 'and one in it' 201 '' alice:a /folder/front/in -X POST
@@ -256,6 +296,22 @@ if certify_front && start_front 'dates by HTTP/2' tls; then
   until is_in_log || [ $((SECONDS - began)) -ge 10 ]; do sleep 0.1; done
   holds 'a request that is taken back' is_in_log
   holds 'leaves no line' [ "$(size_of $journal)" = "$before" ]
+
+  # Nor does it help to take no answer: until its line is there, the door would tell of what stands
+  # at a path what it knows of another one.
+  head -c 1048576 /dev/zero >large
+  curl -s -k -o /dev/null -u alice:a -T large "https://127.0.0.1:$secure/doc/f/large"
+  mkfifo held
+  python3 "$here/lib/unread.py" rooms.pem "$secure" alice:a /doc/f/large POST /folder/f/held \
+    <held &
+  asking=$!
+  exec 3>held
+  is_noted() { grep -q '"p":"/folder/f/held","s":"201"' $journal; }
+  began=$SECONDS
+  until is_noted || [ $((SECONDS - began)) -ge 10 ]; do sleep 0.1; done
+  holds 'a change whose answer nobody takes has its line' is_noted
+  exec 3>&-
+  wait "$asking"
   stop_proxy
 fi
 stop_server

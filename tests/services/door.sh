@@ -140,11 +140,17 @@ copies
 holds 'is recorded' [ "$(grep -c ',carol,/f,c,no,' records)" = 1 ]
 
 # What goes, and what bars it.
-ask 'what goes' 200 '{"at":"/","barred":null,"objects":['\
+goes() { # NAME ANSWER USER:PASSWORD TARGET
+  answer "$3" "$4"
+  sed -E 's/"tag":"\\"[0-9a-f]{32}\\""/"tag":".."/' "$work/body" >got
+  printf %s "$2" >wanted
+  same "$1" got wanted
+}
+goes 'what goes' '{"at":"/","barred":null,"objects":['\
 '{"kind":"folder","path":"/f"},{"kind":"folder","path":"/f/board"},'\
-'{"kind":"document","path":"/f/plan"}],"unlisted":[]}' root:r '/door/goes/?f'
-ask 'what bars it' 200 '{"at":"/f","barred":{"at":"/f","path":"/f/board"},"objects":['\
-'{"kind":"folder","path":"/f/board"}],"unlisted":[]}' carol:c '/door/goes/f?board'
+'{"kind":"document","path":"/f/plan"}],"tag":"..","unlisted":[]}' root:r '/door/goes/?f'
+goes 'what bars it' '{"at":"/f","barred":{"at":"/f","path":"/f/board"},"objects":['\
+'{"kind":"folder","path":"/f/board"}],"tag":"..","unlisted":[]}' carol:c '/door/goes/f?board'
 
 # Only what was seen is replaced.
 answer alice:a /door/doc/f/plan -I

@@ -16,8 +16,8 @@ import zlib
 from collections.abc import Callable
 
 import papers
-from rooms_services.texts import feed
-from rooms_services.texts.sink import MOST_TEXT, State
+from rooms_services.document_texts import feed
+from rooms_services.document_texts.sink import MOST_TEXT, State
 
 LARGEST = 1 << 20
 W, C, N, B, L = State.WHOLE, State.CUT, State.NONE, State.BROKEN, State.LATE

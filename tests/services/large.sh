@@ -14,7 +14,7 @@ for one in staff,{alice,bob,pat,ella,clara,ivan} editors,{erin,ella} clerks,clar
 gives 'groups' 0 'groups 5, members 12\n' '' groups F groups.csv
 set_list F / dacl list:a A::AUTHENTICATED@:x "A:fd:alice:$ALL"
 start_room F 1000000 || return
-printf '%s:{PLAIN}x\n' alice bob pat zoe >rooms.htpasswd
+printf '%s:{PLAIN}x\n' alice bob pat zoe ella clara ivan >rooms.htpasswd
 admin setup
 sets office LARGEST 20
 sets office DRIVE yes
@@ -58,7 +58,7 @@ ask 'not once more' 412 - bob:x /door/doc/p/scan -T scan -H "If-Match: $(tag sca
 same_bytes 'it is there' /door/doc/p/scan other
 head -c 20971521 /dev/zero >too-large
 ask 'too large' 413 - pat:x /door/doc/p/x -T too-large -H 'If-None-Match: *'
-ask 'which is said before' 413 '{"why":"too-large"}' pat:x '/door/places/p/x?20971521' -X POST \
+ask 'which is said before' 413 '{"why":"too-large"}' pat:x '/door/upload/p/x?20971521' -X POST \
   -H 'If-None-Match: *'
 ask 'to the room as ever' 413 - pat:x /doc/p/x -T scan
 mkdir -p run/rooms-full
@@ -69,6 +69,55 @@ ask 'moved' 204 '' pat:x /door/move/p/scan -d '{"to":"/e/scan"}'
 same_bytes 'to its place' /door/doc/e/scan other zoe
 ask 'removed' 204 '' pat:x /door/object/e/scan -X DELETE
 ask 'with all of it' 200 '[]' alice:x /folder/e
+
+# In pieces, as the page sends it: in any order, once or again.
+curl -s -u pat:x -X POST -H 'If-None-Match: *' "$base/door/upload/p/pieces?20000000" >begun
+upload=$(sed -nE 's/^\{"upload":"([0-9a-f]{32})"\}$/\1/p' begun)
+split -b 1048576 --numeric-suffixes=1 -a 2 scan piece
+for n in 20 07 {01..19}; do
+  curl -s -o "$work/body" -w '%{http_code}\n' -T "piece$n" -u pat:x \
+    "$base/door/pieces/$upload/$((10#$n))"
+done | sort | uniq -c | tr -s ' \n' ' ' >counts
+holds "pieces: $(cat counts)" [ "$(cat counts)" = ' 21 204 ' ]
+ask 'they are there' 200 "{\"here\":[$(seq -s , 20)]}" pat:x "/door/pieces/$upload"
+ask 'for their user alone' 404 '{"why":"no-upload"}' bob:x "/door/pieces/$upload"
+ask 'and not in the room' 404 - pat:x /doc/p/pieces
+for turn in 1 2; do
+  ask "they are the document ($turn)" 201 '' pat:x /door/doc/p/pieces -X PUT -d '' \
+    -H "Room-Upload: $upload" -H 'If-None-Match: *'
+done
+same_bytes 'as it was' /door/doc/p/pieces scan
+ask 'removed' 204 '' pat:x /door/object/p/pieces -X DELETE
+
+# Who may not write there is denied before it comes, which would take minutes.
+for way in door/doc drive; do
+  ask "not by a stranger ($way)" 403 - zoe:x "/$way/p/none" -T scan -H 'If-None-Match: *' \
+    --limit-rate 100k -m 20
+done
+
+# Four who send slowly as many as they may keep nobody else out, and leave nothing.
+coming() { find "/proc/${doors[-1]}/fd" -lname '* (deleted)' | wc -l; }
+come() { # NUMBER
+  local began=$SECONDS
+  until [ "$(coming)" = "$1" ] || [ $((SECONDS - began)) -ge "$patience" ]; do sleep 0.1; done
+  holds "$1 come: $(coming)" [ "$(coming)" = "$1" ]
+}
+slow=()
+for one in bob ella clara ivan; do
+  for n in 1 2; do
+    curl -s --limit-rate 1k -T scan -H 'If-None-Match: *' -u "$one:x" "$base/door/doc/e/$one$n" \
+      >"slow-$one$n" &
+    slow+=($!)
+    others+=($!)
+  done
+done
+come 8
+ask 'a fifth gets through' 201 '' pat:x /door/doc/p/fifth -T scan -H 'If-None-Match: *'
+same_bytes 'with all of it' /door/doc/p/fifth scan
+kill "${slow[@]}"
+come 0
+ask 'of the others nothing is left' 200 '[]' alice:x /folder/e
+
 for n in 1 2 3 4; do
   curl -s -o "code$n" -w '%{http_code}' --limit-rate 2M -T scan -H 'If-None-Match: *' -u pat:x \
     "$base/door/doc/p/at-once-$n" >"status$n" &
@@ -116,6 +165,10 @@ python3 "$here/services/large_levels.py" "$socket" "$PWD/run/door/office/socket"
 holds "small and large ones: $(tail -n 3 found)" grep -qE '^[0-9]{3} compared, 0 differ$' found
 
 # The door is killed: the document is the one before or the one after, as a whole.
+kill -9 "${doors[-1]}"
+wait "${doors[-1]}" 2>/dev/null
+ask 'no door takes one' 502 - pat:x /door/doc/p/none -T scan -H 'If-None-Match: *'
+start_door office --drive=yes
 head -c 3000000 /dev/urandom >now
 ask 'one to be replaced' 201 '' pat:x /door/doc/p/kept -T now -H 'If-None-Match: *'
 for turn in {1..12}; do

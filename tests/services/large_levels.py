@@ -16,13 +16,13 @@ from collections.abc import Iterator
 
 ALL = "rwanNxDtThHdcCoy"
 MANAGE, KEEP, OWN = f"A:fd:alice:{ALL}", "D:d:EVERYONE@:Dd", "A:fi:OWNER@:d"
-SMALL, LARGE = b"small", bytes(range(256)) * 6000
+SMALL, LARGE, PIECE = b"small", bytes(range(256)) * 6000, 1 << 20
 USERS = ("alice", "bob", "pat", "erin", "ella", "clara", "ivan", "petra", "zoe")
 # Who asks beside bob, who is staff, and whose the document is beside their own.
 ASKING = {"policies": "bob", "minutes": "bob", "letters": "bob", "bob": "bob", "inbox": "clara",
           "personnel": "petra", "handbook": "erin", "drafts": "ivan"}
 # The levels as the page calls them, and whom the table means beside those who are staff.
-LEVELS = {"Can read": "read", "Can add": "add", "Can put in": "drop",
+LEVELS = {"Can read": "read", "Can read and add": "add", "Can drop documents in": "drop",
           "Can add and change": "change", "Can add, change and remove": "remove",
           "Can manage": "manage"}
 GROUPS = {"interns": "ivan", "editors": "erin", "clerks": "clara"}
@@ -130,6 +130,20 @@ class Played:
         return ask(self.door, user, "PUT", f"/door/dacl/{at}", b"list:\nA::zoe:rxtc\n",
                    If_Match="*")[0]
 
+    def in_pieces(self, word: str, user: str, name: str) -> int:
+        """The same of a large one that comes in pieces."""
+        at = f"{self.folder}/{name}{'p' if word == 'upload' else ''}"
+        fields = {"If_None_Match": "*"} if word == "upload" else {"If_Match": "*"}
+        status, told = ask(self.door, user, "POST", f"/door/upload/{at}?{len(LARGE)}", **fields)
+        if status != 201:
+            return status
+        upload = json.loads(told)["upload"]
+        for number, place in enumerate(range(0, len(LARGE), PIECE), 1):
+            status, _ = ask(self.door, user, "PUT", f"/door/pieces/{upload}/{number}",
+                            LARGE[place:place + PIECE])
+            assert status == 204, (number, status)
+        return ask(self.door, user, "PUT", f"/door/doc/{at}", Room_Upload=upload, **fields)[0]
+
     def rights(self, name: str) -> dict[str, set[str]]:
         """Of each object that a document consists of, what everybody may do there."""
         listed = json.loads(self.must("GET", f"/folder/{self.folder}"))
@@ -147,12 +161,14 @@ class Played:
             if word != "upload" and self.does("upload", maker, own, data) != 201:
                 return ""
             said.append(self.does(word, who, own, data))
+            if data is LARGE and word in ("upload", "replace"):
+                said.append(self.in_pieces(word, who, own))
             if data is LARGE:
                 rights = self.rights(own)
                 if len(set(map(frozenset, rights.values()))) > 1:
                     return f"{what}: {word} by {who} of {maker}'s: rights {rights}"
         may = allowed in ("yes", "all") or allowed == "own" and who == maker
-        is_so = said[0] == said[1] and (not allowed or may == (said[0] < 300))
+        is_so = len(set(said)) == 1 and (not allowed or may == (said[0] < 300))
         return "" if is_so else f"{what}: {word} by {who} of {maker}'s: {said}, {allowed}"
 
 

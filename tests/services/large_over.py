@@ -42,12 +42,14 @@ class Large(Over):
         for where in ("rooms_admin.room.in_parts", "rooms_services.room.parts",
                       "rooms_services.door.serve", "rooms_services.door.routes",
                       "rooms_services.door.webdav.calls",
+                      "rooms_services.door.large.pieces",
                       "rooms_services.door.large.replacing"):
             patched = mock.patch(f"{where}.LARGEST", SMALL)
             patched.start()
             self.addCleanup(patched.stop)
         self.door = Door(Room(self.at("judged")), Would(""), calls.Drive(
             Kept(), self.full, largest=100 * SMALL), self.full, largest=100 * SMALL)
+        self.addCleanup(self.door.arrivals.clear)
         self.front = opened(self.at("other"), self.door)
         for server in (self.served, self.front):
             threading.Thread(target=server.serve_forever, args=(0.01,), daemon=True).start()

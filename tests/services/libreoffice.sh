@@ -61,15 +61,17 @@ suite carol open "$of_carol/letter.odt"
 holds "what was saved is read, and not written: $(cat said)" \
   says 0 'Dear Bob, thank you.' read-only
 
-# A text with a scan of 20 MB in it, which lies there in parts.
-python3 -B "$here/services/large_paper.py" scan.odt 'Dear Bob,' 20000000
+# A text with a scan of 20 MB in it, or as many as ROOMS_LARGE says, which lies there in parts.
+large=${ROOMS_LARGE:-20}
+python3 -B "$here/services/large_paper.py" scan.odt 'Dear Bob,' "${large}000000"
 ask 'one with a scan' 201 '' alice:a /drive/scan.odt -T scan.odt
 suite bob save "$of_bob/scan.odt" ' thank you.'
 holds "is saved in place by another user: $(cat said)" says 0 'Dear Bob, thank you.'
 suite carol open "$of_carol/scan.odt"
 holds "and read: $(cat said)" says 0 'Dear Bob, thank you.' read-only
 curl -s -u carol:c "http://127.0.0.1:$front/door/doc/scan.odt" >saved.odt
-holds "with its scan: $(stat -c %s saved.odt)" [ "$(stat -c %s saved.odt)" -gt 19000000 ]
+holds "with its scan: $(stat -c %s saved.odt)" \
+  [ "$(stat -c %s saved.odt)" -gt "$((large * 950000))" ]
 ask 'it is hers' 200 '{"group":"staff","kind":"document","owner":"alice"}' root:r /attr/scan.odt
 
 # One user has it open; the other gets it read-only, and afterwards can write.

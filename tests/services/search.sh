@@ -9,7 +9,7 @@ services=$repo/services
 printf '%s\n' '[mypy]' 'strict = True' "cache_dir = $PWD/mypy" >mypy.ini
 if has mypy; then
   MYPYPATH=$services:$repo/admin:$here/services mypy --config-file mypy.ini \
-    "$services"/rooms_services/{texts,door/search} \
+    "$services"/rooms_services/{document_texts,door/search} \
     "$here"/services/{papers,searching,searched,hostile_papers}.py \
     "$here"/services/test_{texts,store,search}.py >"$work/out" 2>&1
   status=$?
@@ -18,14 +18,14 @@ else
   skip 'types of a search' 'mypy is missing'
 fi
 if has flake8; then
-  flake8 --isolated --max-line-length 100 "$services"/rooms_services/{texts,door/search} \
+  flake8 --isolated --max-line-length 100 "$services"/rooms_services/{document_texts,door/search} \
     >"$work/out" 2>&1
   status=$?
   holds "flake8: $(head -n 5 "$work/out")" [ "$status" = 0 ]
 else
   skip 'style of a search' 'flake8 is missing'
 fi
-find "$services"/rooms_services/{texts,door/search} -name '*.py' -exec wc -l {} + |
+find "$services"/rooms_services/{document_texts,door/search} -name '*.py' -exec wc -l {} + |
   awk '$2 != "total" && $1 >= 500 { print $2 }' >found
 same 'no file has 500 lines' found /dev/null
 has pdftotext || skip 'texts of PDF' 'pdftotext is missing'

@@ -36,12 +36,14 @@ from lab import ALL, Bulk, Lab, target
 from rooms_services import listening
 from rooms_services.door.changes import lines
 from rooms_services.door.changes.keeper import Keeper
+from rooms_services.door.folders import walk
 from rooms_services.door.folders.walk import Node
 from rooms_services.door.search import asking, search
 from rooms_services.door.search.reading import Reading
+from rooms_services.room import room
 from rooms_services.room.paths import names_in
 from rooms_services.room.room import Ask, Reply, Room, about
-from rooms_services.texts import extract, feed, keeper, night, nights
+from rooms_services.document_texts import extract, feed, keeper, night, nights
 
 from rooms_admin.backup import objects_of_copy
 
@@ -185,17 +187,18 @@ class Heard:
 
     @contextmanager
     def listens(self) -> Iterator[None]:
-        message, asked = Ask.message, asking.Asking._ask
+        message, asked = room.question, asking.Asking._ask
 
-        def to_room(ask: Ask, user: str) -> bytes:
-            self.all.append(message(ask, user))
+        def to_room(user: str, route: str, path: str, query: str) -> bytes:
+            self.all.append(message(user, route, path, query))
             return self.all[-1]
 
         def to_keeper(keeper_: asking.Asking, what: dict[str, object]) -> dict[str, object]:
             said = asked(keeper_, what)
             self.all += [json.dumps(one, sort_keys=True).encode() for one in (what, said)]
             return said
-        with mock.patch.object(Ask, "message", to_room), \
+        with mock.patch.object(room, "question", to_room), \
+                mock.patch.object(walk, "question", to_room), \
                 mock.patch.object(asking.Asking, "_ask", to_keeper):
             yield
 

@@ -12,8 +12,8 @@ from rooms_services import listening
 from rooms_services.door.changes.keeper import Keeper
 from rooms_services.door.search.reading import Reading
 from rooms_services.door.search.search import Texts
-from rooms_services.texts import extract, feed, keeper, night, nights
-from rooms_services.texts.sink import State
+from rooms_services.document_texts import extract, feed, keeper, night, nights
+from rooms_services.document_texts.sink import State
 from test_store import copy
 
 Told = dict[str, object]

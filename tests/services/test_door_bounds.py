@@ -190,6 +190,22 @@ class Denied(Over):
                 self.assertEqual(self.told(f"/door/{target}"), (413, {"why": "too-many"}))
             self.assertTrue(1000 <= self.denied <= 1000 + 2 * 64, self.denied)
 
+    def test_what_was_changed(self) -> None:
+        """One request may be very many changes: all of it is done, and the next one is refused
+        until some time is over."""
+        now = [1000.0]
+        self.door.room.changes = room.Changes(5, 10.0, lambda: now[0])
+        self.room.make(h=None, **{f"h__{number}": b"x" for number in range(12)})
+        self.assertEqual(self.ask("DELETE", "/drive/h")[0], 204)
+        self.assertNotIn(("h",), self.room.objects)
+        for target in "/door/doc/new", "/drive/new":
+            status, told, _ = self.ask("PUT", target, b"x", If_None_Match="*")
+            self.assertEqual((status, told["Retry-After"]), (429, "60"), target)
+            self.assertEqual(self.ask("GET", target)[0], 404)
+        self.assertEqual(self.ask("PUT", "/drive/new", b"x", user="bob")[0], 201)
+        now[0] += 2.0
+        self.assertEqual(self.ask("PUT", "/drive/new", b"x")[0], 204)
+
     def test_in_the_long_run(self) -> None:
         now = [1000.0]
         closed = room.Reply(403, b"")
@@ -235,6 +251,26 @@ class Rows(Over):
                 self.assertLessEqual(sum(listings[place:place + count]), 4)
                 place += count
             self.assertEqual(sum(listings), wanted)
+
+    def test_the_last_row_in_time(self) -> None:
+        """Whoever has no time left for its answers doesn't have all."""
+        self.room.make(a=b"x")
+        going, got = [True, False], list[int]()
+        looked = walk.Walk(self.door.room, "alice")
+        looked.ask(walk.Step("can", "r", lambda _, reply: got.append(reply.status)),
+                   walk.Node(b"/a", False))
+        looked.run(lambda: going.pop(0))
+        self.assertEqual((len(looked.asked), got), (1, []))
+        looked.all()
+        self.assertEqual((len(looked.asked), got), (0, [200]))
+
+    def test_what_is_far_down(self) -> None:
+        """A question about it takes the room as long as several others."""
+        way = tuple("d" * 320)
+        self.room.objects |= {way[:depth]: None for depth in range(1, 321)}
+        self.room.objects |= {(*way, str(number)): b"" for number in range(40)}
+        self.assertEqual(self.told(f"/door/closed/{'/'.join(way)}")[0], 200)
+        self.assertLessEqual(max(self.room.connections), 5)
 
     def test_names_in_a_listing(self) -> None:
         names = ['","kind":"folder"},{"kind":"folder","name":"x', "a\\", '"', "ä\U0001f600",

@@ -76,27 +76,38 @@ class Whole(Large):
         self.assertEqual(self.judged.names("p"), [])
         self.assertEqual(self.put(bytes(100 * SMALL)), 201)
 
+    def test_what_is_no_document(self) -> None:
+        for data in (b"small", data_of(3 * SMALL)):
+            for path in ("", "p"):
+                self.assertEqual(self.put(data, "alice", path, "*"), 409)
+                self.assertEqual(json.loads(self.said), {"at": f"/{path}", "why": "wrong-kind"})
+                self.assertEqual(self.put(data, "alice", path), 412)
+
     def places(self, size: int, user: str, path: str = "p/d", **fields: str) -> tuple[int, str]:
-        status, _, body = self.ask("POST", f"/door/places/{path}?{size}", user=user, **fields)
-        return status, json.loads(body).get("why", "") if body else ""
+        status, _, body = self.ask("POST", f"/door/upload/{path}?{size}", user=user, **fields)
+        told = json.loads(body) if body else {}
+        if status == 201:
+            self.assertEqual(self.ask("DELETE", f"/door/pieces/{told['upload']}", user=user)[0],
+                             204)
+        return status, told.get("why", "")
 
     def test_refused_before_its_first_byte(self) -> None:
         new, old = {"If_None_Match": "*"}, {"If_Match": "*"}
-        self.assertEqual(self.places(4 * SMALL, "pat", **new), (204, ""))
+        self.assertEqual(self.places(4 * SMALL, "pat", **new), (201, ""))
         self.assertEqual(self.judged.names("p"), [])
         self.assertEqual(self.places(4 * SMALL, "eve", **new)[0], 403)
         self.assertEqual(self.places(100 * SMALL + 1, "pat", **new), (413, "too-large"))
         self.assertEqual(self.places(SMALL, "pat", **new), (413, "too-large"))
         self.assertEqual(self.places(4 * SMALL, "pat"), (428, "no-condition"))
-        self.assertEqual(self.ask("POST", "/door/places/p/d?x", user="pat", **new)[0], 400)
+        self.assertEqual(self.ask("POST", "/door/upload/p/d?x", user="pat", **new)[0], 400)
         self.put(b"small")
         self.assertEqual(self.places(4 * SMALL, "pat", **new), (412, "exists"))
         self.assertEqual(self.places(4 * SMALL, "bob", **old), (409, "no-place"))
         self.assertEqual(self.judged.names("p"), ["d"])
-        self.assertEqual(self.places(4 * SMALL, "pat", **old), (204, ""))
+        self.assertEqual(self.places(4 * SMALL, "pat", **old), (201, ""))
         self.assertEqual(self.got(), b"small")
         # Its owner has made the places: so others can use them.
-        self.assertEqual(self.places(4 * SMALL, "bob", **old), (204, ""))
+        self.assertEqual(self.places(4 * SMALL, "bob", **old), (201, ""))
         self.assertEqual(self.put(data_of(4 * SMALL), "bob", match="*"), 204)
         self.put_list("/p", READ)
         self.assertEqual(self.places(4 * SMALL, "bob", **old), (403, ""))
@@ -107,7 +118,7 @@ class Whole(Large):
         new = {"If_None_Match": "*"}
         with open(self.at("full.left"), "w") as left:
             left.write("4000\n")
-        self.assertEqual(self.places(4 * SMALL, "pat", **new), (204, ""))
+        self.assertEqual(self.places(4 * SMALL, "pat", **new), (201, ""))
         self.assertEqual(self.places(4 * SMALL + 1, "pat", **new), (507, "full"))
         self.assertEqual(self.put(data_of(4 * SMALL + 1)), 507)
         self.assertEqual(json.loads(self.said), {"left": 4000, "why": "full"})
@@ -123,7 +134,7 @@ class Whole(Large):
         for text in ("", "-1", "4000.5", "\xb2", "9" * 20):
             with open(self.at("full.left"), "w") as left:
                 left.write(text)
-            self.assertEqual(self.places(5 * SMALL, "pat", "p/e", **new), (204, ""))
+            self.assertEqual(self.places(5 * SMALL, "pat", "p/e", **new), (201, ""))
 
     def test_a_denial_is_recorded_once(self) -> None:
         """As that of a small one: of the document, and by the room."""

@@ -1,10 +1,16 @@
 """What somebody lays beside a document of more than 1 MiB, or takes away there: nobody reads by it
 what they may not, and the document stays whole."""
+import threading
+import time
 import unittest
+from unittest import mock
 
+from fake_room import Said
 from judged_room import ALL
-from large_over import SMALL, Large, data_of
+from large_over import DROP, MANAGE, SMALL, Large, data_of
 from rooms_admin.room import in_parts
+from rooms_services.door.large import held, replacing
+from rooms_services.room import large, turns
 
 
 class Laid(Large):
@@ -94,6 +100,123 @@ class Laid(Large):
         self.lay(len(self.parts()) + 1)
         status = self.ask("POST", "/door/move/p/d", '{"to":"/p/other"}', "bob")[0]
         self.assertEqual((status, self.got("bob", "p/other")), (204, self.data))
+
+
+class Closed(Large):
+    def test_nobody_waits_for_what_is_closed_to_them(self) -> None:
+        """Else how long a denial takes would say that somebody writes there."""
+        self.put(b"small", "pat")
+        self.put_list("/p", f"list:ap {MANAGE} A::pat:x")
+        with mock.patch.object(held, "PATIENCE", 3.0), held.HELD.alone(("p", "d")):
+            for method, target, body, fields in (
+                    ("PUT", "/door/doc/p/d", "other", {"If_Match": "*"}),
+                    ("PUT", "/door/doc/p/d", data_of(4 * SMALL), {"If_Match": "*"}),
+                    ("PUT", "/door/dacl/p/d", "list:p\n", {"If_Match": "*"}),
+                    ("PUT", "/door/attr/p/d", '{"owner":"bob","group":"staff"}', {}),
+                    ("POST", "/door/move/p/d", '{"to":"/e/d"}', {}),
+                    ("POST", "/door/move/e/x", '{"to":"/p/d"}', {}),
+                    ("DELETE", "/door/object/p/d", "", {}), ("DELETE", "/door/left/p/d", "", {})):
+                status = self.ask(method, target, body, "bob", **fields)[0]
+                self.assertIn(status, (403, 404), (method, target))
+            self.assertEqual(self.ask("DELETE", "/door/object/p/d", user="pat")[0], 503)
+
+
+class Many(Large):
+    """Very many are laid beside one document. Whoever changes that is denied nothing that they
+    didn't ask for, and others ask the room in between."""
+
+    def setUp(self) -> None:
+        super().setUp()
+        self.put(b"small", "pat")
+        self.lay("ella")
+        self.denied: list[str] = []
+        answer = self.judged.answer
+
+        def noting(user: str, method: str, target: str, body: bytes) -> Said:
+            said = answer(user, method, target, body)
+            if said[0] == 403:
+                self.denied.append(target)
+            return said
+        self.judged.answer = noting    # type: ignore[method-assign]
+
+    def lay(self, user: str) -> None:
+        for number in range(1, 41):
+            self.judged.does(user, "PUT", f"/doc/p/d{in_parts.end_of(number)}")
+
+    def test_nothing_is_denied(self) -> None:
+        for method, target, body, fields in (
+                ("PUT", "/door/doc/p/d", "other", {"If_Match": "*"}),
+                ("POST", "/door/move/p/d", '{"to":"/p/e"}', {}),
+                ("MOVE", "/drive/p/e", "", {"Destination": "/drive/p/d"}),
+                ("DELETE", "/door/object/p/d", "", {})):
+            status, _, said = self.ask(method, target, body, "pat", **fields)
+            self.assertIn(status, (201, 204), (method, target, said))
+            self.assertEqual(self.denied, [], (method, target))
+        self.assertEqual(len(self.judged.names("p")), 40)
+
+    def test_nor_where_nothing_may_come(self) -> None:
+        self.put_list("/e", f"list:ap {MANAGE} A::pat:x")
+        self.assertEqual(self.ask("POST", "/door/move/p/d", '{"to":"/e/d"}', "pat")[0], 403)
+        self.assertEqual(self.denied, ["/move/p/d"])
+
+    def test_nor_to_who_may_not_read(self) -> None:
+        self.put_list("/p", DROP)
+        self.put_list("/p/d", f"list:p A::bob:w A::alice:{ALL}")
+        self.assertEqual(self.put(b"other", "bob", match="*"), 204)
+        self.assertEqual(self.denied, [])
+
+    def test_nor_by_a_list_of_them(self) -> None:
+        """That somebody wrote, and in which each is one of its parts."""
+        whole = in_parts.Manifest(40 * SMALL, "0" * 64, tuple(
+            (number, "0" * 64) for number in range(1, 41)))
+        self.judged.does("pat", "PUT", "/doc/p/d", whole.text())
+        for number in range(1, 41):
+            self.put_list(f"/p/d{in_parts.end_of(number)}", f"list:p A::alice:{ALL}")
+        self.assertEqual(self.put(b"other", "pat", match="*"), 204)
+        self.judged.does("pat", "PUT", "/doc/p/d", whole.text())
+        self.assertEqual(self.ask("DELETE", "/door/object/p/d", user="pat")[0], 204)
+        self.assertEqual(self.denied, [])
+
+    def test_others_ask_in_between(self) -> None:
+        """Also of what is removed with its folder's names, and of a small document."""
+        with mock.patch.object(large, "HELD", 5):
+            for method, target, body, fields in (
+                    ("PUT", "/door/doc/p/d", "other", {"If_Match": "*"}),
+                    ("PUT", "/drive/p/d", "other", {}),
+                    ("POST", "/door/remove/p", '["d"]', {"If_Match": "*"})):
+                self.judged.connections.clear()
+                status, _, _ = self.ask(method, target, body, "pat", **fields)
+                self.assertIn(status, (200, 204), target)
+                self.assertLess(max(self.judged.connections), 24, target)
+
+
+class Beginning(Large):
+    def test_eight_who_begin_beside_very_many(self) -> None:
+        """To look for places takes long there: others have turns meanwhile."""
+        looking: list[str] = []
+        looked = threading.Event()
+
+        def look(_room: object, _would: object, user: str, *_: object) -> None:
+            looking.append(user)
+            looked.wait(20)
+
+        def begin(user: str) -> None:
+            self.ask("POST", f"/door/upload/p/d?{3 * SMALL}", user=user, If_None_Match="*")
+        with mock.patch.object(replacing, "prepare", look):
+            threads = [threading.Thread(target=begin, args=(f"user{number % 8}",))
+                       for number in range(16)]
+            for thread in threads:
+                thread.start()
+            ends = time.monotonic() + 20
+            while self.door.users._all.total() < 16 or len(looking) < 4:
+                self.assertLess(time.monotonic(), ends)
+                time.sleep(0.01)
+            with mock.patch.object(turns, "PATIENCE", 2.0):
+                self.assertEqual(self.ask("GET", "/door/attr/p", user="pat")[0], 405)
+            self.assertEqual((len(looking), len(set(looking))), (4, 4))
+            looked.set()
+            for thread in threads:
+                thread.join()
 
 
 if __name__ == "__main__":

@@ -89,10 +89,20 @@ class Locking(Drive):
                              (423, b"something in it is locked: /board\n"), (method, path))
             self.assertEqual(self.dav(method, path, "", "eve", **fields)[::2],
                              (423, b"locked by alice: /board/plan/secret\n"), (method, path))
-        # Who may not remove it learns of no lock.
+        # Who may not remove it learns of no lock: it is said, and recorded, as without one.
         self.room.denied |= {("bob", "/board", "d"), ("bob", "/", "D")}
-        for method, path, fields in asked:
-            self.assertEqual(self.status(method, path, "", "bob", **fields), 403, (method, path))
+        assert self.door.drive
+        told: list[list[object]] = []
+        for _ in range(2):
+            said: list[object] = []
+            for method, path, fields in asked:
+                self.room.seen.clear()
+                answer = self.dav(method, path, "", "bob", **fields)[::2]
+                self.assertIn(answer[0], (207, 403), (method, path))
+                said += [answer, [one for one in self.room.seen if " GET /can/" not in one]]
+            told.append(said)
+            self.door.drive.locks.gone(("board",))
+        self.assertEqual(told[0], told[1])
 
     def test_a_listing_tells_locks_where_the_way_is_open(self) -> None:
         self.make(board=None, board__secret=b"x")

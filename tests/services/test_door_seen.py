@@ -1,7 +1,11 @@
 """What a listing by WebDAV has read of documents, where the door is told of each change."""
+import json
 import os
+import time
 
 from dated_door import Dated, line
+from fake_room import Said
+from rooms_services.door.changes.keeper import now
 from rooms_services.door.webdav import calls
 from rooms_services.door.webdav.kept import Kept
 from rooms_services.room.tags import tag_of
@@ -92,11 +96,43 @@ class Seen(Dated):
 
     def test_a_change_between_the_look_and_now(self) -> None:
         """What was read before it isn't kept."""
-        found, looks = self.keeper.seen(("f",), ["a", "b"])
+        found, looks = self.keeper.seen(("f",), ["a", "b"], now())
         self.assertEqual((found, sorted(looks)), ({}, ["a", "b"]))
         self.add(line("bob", "PUT", "/doc/f/a", 204, 7))
-        self.keeper.keep_seen(looks, {"a": "old", "b": "read"})
-        self.assertEqual(self.keeper.seen(("f",), ["a", "b"])[0], {"b": "read"})
+        self.keeper.keep_seen(looks, {"a": "old", "b": "read"}, now())
+        self.assertEqual(self.keeper.seen(("f",), ["a", "b"], now())[0], {"b": "read"})
+
+    def moves(self, *ways: tuple[str, str]) -> None:
+        self.add(*(line("eve", "POST", f"/move/f/{name}", 204, 9, json.dumps({"to": f"/f/{to}"}),
+                        time.time()) for name, to in ways))
+
+    def test_another_one_in_its_place_meanwhile(self) -> None:
+        """Whoever may move a document and not read it is told no measure of it at the place of
+        theirs, nor has theirs kept for it."""
+        self.listed()
+        self.room.denied.add(("eve", "/f/b", "r"))
+        answer = self.room.answer
+
+        def before(user: str, method: str, target: str, body: bytes) -> Said:
+            said = answer(user, method, target, body)
+            if target == "/can/f/a?r":
+                self.room.answer = answer    # type: ignore[method-assign]
+                self.moves(("a", "c"), ("b", "a"))
+            return said
+        self.room.answer = before    # type: ignore[method-assign]
+        self.assertEqual(self.listed("eve"), ({tag_of(b"one")}, ["a"]))
+        # (this room hasn't moved them)
+        time.sleep(0.002)
+        self.moves(("a", "b"), ("c", "a"))
+        time.sleep(0.002)
+        self.assertEqual(self.listed(), (self.both(), []))
+        self.add(line("bob", "PUT", "/doc/f/a", 204, 7))
+        began = now()
+        _, looks = self.keeper.seen(("f",), ["a"], began)
+        self.moves(("a", "c"), ("c", "a"))
+        self.keeper.keep_seen(looks, {"a": "hers"}, began)
+        time.sleep(0.002)
+        self.assertEqual(self.keeper.seen(("f",), ["a"], now())[0], {})
 
     def test_where_nothing_is_known(self) -> None:
         """Of what no line told, it is read each time; so it is while dates aren't known."""

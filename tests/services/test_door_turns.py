@@ -1,4 +1,6 @@
 """Who is answered when, over a room in memory: one that is away or hangs, many requests at once."""
+import contextlib
+import io
 import socket
 import threading
 import time
@@ -7,11 +9,44 @@ from unittest import mock
 
 from over import Local, Over
 from rooms_services.door import serve
+from rooms_services.door.folders import matched
 from rooms_services.room import room, turns
 from rooms_services.room.answers import Stop
 
 
 class Busy(Over):
+    def test_who_writes_the_same(self) -> None:
+        """Nobody waits for what is told to somebody whose condition doesn't hold."""
+        self.room.make(a=b"x")
+        asked, goes_on = threading.Event(), threading.Event()
+        said: list[int] = []
+
+        def slowly(*_what: object) -> None:
+            asked.set()
+            goes_on.wait(30)
+        with mock.patch.object(matched, "holders", slowly):
+            for target in ("/door/doc/a", "/door/dacl/a"):
+                late = threading.Thread(target=lambda: said.append(
+                    self.ask("PUT", target, "y", "bob", If_Match='"other"')[0]))
+                late.start()
+                self.assertTrue(asked.wait(30))
+                began = time.monotonic()
+                self.assertEqual(self.ask("PUT", target, "list:a\n", If_Match="*")[0], 204)
+                self.assertLess(time.monotonic() - began, 10)
+                goes_on.set()
+                late.join()
+                asked.clear()
+                goes_on.clear()
+        self.assertEqual(said, [412, 412])
+
+    def test_nothing_is_written_of_what_cannot_be_read(self) -> None:
+        many = b"".join(b"X-%d: y\r\n" % number for number in range(150))
+        with contextlib.redirect_stderr(io.StringIO()) as told:
+            for message in (b"GET /door/doc/a HTTP/1.1\r\n" + many + b"\r\n",
+                            b"GET /door/doc/a b HTTP/1.1\r\n\r\n"):
+                self.assertTrue(self.raw(message).startswith(b"HTTP/1.1 4"))
+        self.assertEqual(told.getvalue(), "")
+
     def test_no_room(self) -> None:
         self.door.room.place = self.at("nothing")
         status, told, body = self.ask("GET", "/door/below/")

@@ -303,6 +303,14 @@ class Hostile(Drive):
             folders = " ".join(f'</drive/h> (["{number}"])' for number in range(9))
             self.assertEqual(self.status("PUT", "/h/x", "y", If=folders), 400)
 
+    def test_lines(self) -> None:
+        """Each line end once was a call that copied all before it: half a second of the door."""
+        for end in (b"\n", b"\r\n", b"&#10;"):
+            text = b'<D:propfind xmlns:D="DAV:">%b</D:propfind>' % (end * (60_000 // len(end)))
+            with mock.patch.object(bodies._Builder, "text") as told:
+                bodies.read(text, "propfind")
+            self.assertLess(told.call_count, 100)
+
     def test_legal(self) -> None:
         for text in ("\ufffe", "a\x0bb", "<&>\"'", "\U0001f600"):
             ElementTree.fromstring(f"<a>{bodies.legal(text)}</a>")

@@ -150,6 +150,15 @@ class Whole(Over):
         self.assertEqual(self.ask("PROPFIND", "/drive/", Depth="0")[0], 207)
         self.assertEqual(self.room.objects, {(): None, **SOURCE, **TARGET})
 
+    def test_a_clock_that_is_set_back_meanwhile(self) -> None:
+        self.room.objects = {(): None, **SOURCE, **TARGET}
+        self.ending.at, self.ending.is_done = 3, False
+        self.assertEqual(self.ask("MOVE", "/drive/s", Destination="/drive/t")[0], 502)
+        assert self.door.drive
+        setattr(self.door.drive.tasks, "_now", lambda: time.time() - 60.0)
+        self.assertEqual(self.ask("PROPFIND", "/drive/", Depth="0")[0], 207)
+        self.assertEqual(self.room.objects, {(): None, **COPIED})
+
     def test_later_nobody_expects_it(self) -> None:
         self.room.objects = {(): None, **SOURCE, **TARGET}
         self.ending.at, self.ending.is_done = 3, False

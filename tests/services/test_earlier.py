@@ -13,13 +13,10 @@ from unittest import mock
 
 from fake_room import FakeRoom, Served
 from rooms_admin.host import locks
-from rooms_admin.room import needs
-from rooms_admin.backup import backups
-from rooms_services import scgi
 from rooms_services.room.answers import Answer, Stop
 from rooms_services.room import turns
 from rooms_services.room.room import Reply, Room
-from rooms_services.earlier import copies, gate, judge, judging, nights, whole
+from rooms_services.earlier import gate, judge, judging, whole
 from rooms_services.earlier.gate import Opened
 
 NIGHT = "2026-11-01.030000"
@@ -453,98 +450,6 @@ class Asked(Over):
                                 "TARGET": f"/earlier/{NIGHT}/doc/letters/reply"})
         self.assertEqual(stopped.exception.why, "no-room")
         self.assertEqual(self.opened, [])
-
-
-class Places(unittest.TestCase):
-    """Of nights that are open, while a disk of backups hangs."""
-
-    def test_who_hangs_keeps_none(self) -> None:
-        kept = copies.Copies()
-        for number in range(copies.MOST):
-            kept._open["slow", str(number)] = copies.Copy(10, (0, number))
-        with self.assertRaises(copies.Ends):
-            kept._make_place(10)
-        for one in kept._open.values():
-            one.began -= 2 * copies.PATIENCE
-        self.assertEqual(kept._make_place(10), [])
-        self.assertEqual(len(kept._open), copies.MOST)
-
-    def test_nor_comes_later(self) -> None:
-        made = copies.Copy(1, (0, 0), began=time.monotonic() - 3 * copies.PATIENCE)
-        room = nights.Nights("office", "F", "/x", "/bin/false", "owners", "")
-        with tempfile.TemporaryDirectory() as folder, \
-                mock.patch.object(copies, "COPIES", folder), \
-                mock.patch.object(copies, "OPEN", f"{folder}/open"), \
-                mock.patch.object(copies, "_copied", lambda *_: "room"):
-            os.mkdir(copies.OPEN)
-            with self.assertRaises(copies.Ends) as ends:
-                copies.Copies()._start(("office", NIGHT), room, "/x", made)
-        self.assertEqual(ends.exception.word, "busy")
-
-
-class Said(unittest.TestCase):
-    def test_words_of_the_supervisor(self) -> None:
-        for line, status, why in (
-                ("none", 404, "no-night"), ("busy", 503, "busy"), ("large", 503, "large"),
-                ("damaged", 410, "damaged"), ("failed", 502, "away"), ("", 502, "away"),
-                ("ready", 502, "away"), ("ready owners", 502, "away")):
-            with mock.patch.object(gate, "_told", return_value=line.split()):
-                with self.assertRaises(Stop) as stopped:
-                    gate.opened("office", NIGHT)
-                self.assertEqual((stopped.exception.status, stopped.exception.why), (status, why))
-        with mock.patch.object(gate, "_told", return_value=["nights", "owners", f"{NIGHT}=5"]):
-            self.assertEqual(gate.nights("office"),
-                             {"gone": "owners", "nights": [{"at": 5, "night": NIGHT}]})
-        with mock.patch.object(gate, "_told", return_value=["none"]):
-            with self.assertRaises(Stop) as stopped:
-                gate.nights("office")
-            self.assertEqual(stopped.exception.why, "no-earlier")
-
-    def test_what_a_night_needs(self) -> None:
-        """By its bytes, or what its start took, if that was more; of an hourly copy the last
-        night's."""
-        room = nights.Nights("office", "F", "", "", "", "")
-        with tempfile.TemporaryDirectory() as home, \
-                mock.patch.object(needs, "FOLDER", f"{home}/needs"):
-            for night in (NIGHT, "2026-11-02.030000", "2026-11-02.130000"):
-                os.mkdir(f"{home}/{night}")
-                with open(f"{home}/{night}/F", "wb") as file:
-                    file.truncate(48 << 20)
-
-            def needed(night: str) -> int:
-                return nights.megabytes(room, f"{home}/{night}")
-
-            self.assertEqual(needed(NIGHT), 48 + 48 + 16 + 3)
-            needs.put("office", needs.Need(NIGHT, 48, 282))
-            needs.put("office", needs.Need("2026-11-02.030000", 48, 60))
-            self.assertEqual(needed(NIGHT), 282)
-            self.assertEqual(needed("2026-11-02.030000"), 115)
-            self.assertEqual(needed("2026-11-02.130000"), 115)
-
-    def test_moments(self) -> None:
-        self.assertTrue(backups.moments(NIGHT))
-        for night in ("9999-99-99.999999", "2026-02-30.000000", "2026-11-01.240000"):
-            self.assertEqual(backups.moments(night), [])
-
-    def test_the_newest_is_the_administrators(self) -> None:
-        """By the number of each run, where a clock was set back between them."""
-        with tempfile.TemporaryDirectory() as at:
-            names = [("2026-11-30.040000", 7), ("2026-11-28.040000", 8), ("2026-11-27.040000", 6)]
-            for name, number in names:
-                os.makedirs(f"{at}/office/{name}")
-                for file, text in (("F", "x"), ("run", f"number {number}\n")):
-                    with open(f"{at}/office/{name}/{file}", "w", encoding="ascii") as made:
-                        made.write(text)
-            room = nights.Nights("office", "F", at, "", "owners", "")
-            shown = [one.name for one in nights.all_of(room)]
-            self.assertEqual(shown, ["2026-11-28.040000", "2026-11-30.040000",
-                                     "2026-11-27.040000"])
-            known = backups.dated(at, "office", "F").backups
-            self.assertEqual(shown, [one.name for one in reversed(known)])
-
-    def test_no_fields(self) -> None:
-        with self.assertRaises(Stop):
-            scgi.asked(lambda count: b"", 0)
 
 
 if __name__ == "__main__":

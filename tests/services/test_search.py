@@ -13,8 +13,8 @@ from dated_door import line
 from fake_room import Path
 from rooms_services.door.search import asking, reading, search
 from rooms_services.door.search.reading import Reading
-from rooms_services.texts import feed
-from rooms_services.texts.sink import State
+from rooms_services.document_texts import feed
+from rooms_services.document_texts.sink import State
 from searching import Searching
 
 SECRET, NONSENSE = "Geheimwort", "Unsinnwort"
@@ -94,6 +94,11 @@ class Found(Searching):
         for user in ("bob", "carol"):
             for one in self.asked("kündigung", user):
                 self.assertNotRegex(one, "/doc/f/one|/folder/f/g|carol GET /(folder|can)/f/")
+
+    def test_a_night_whose_list_isn_t_taken_yet(self) -> None:
+        with mock.patch.object(self.keeper, "take_night"):
+            self.make_night(self.at_night / 1000 + 1)
+        self.assertEqual(self.found("strasse kündigung"), {"/f/one": 3})
 
     def test_ten_have_texts(self) -> None:
         self.room.make(many=None)
@@ -274,6 +279,10 @@ class Changed(Searching):
         with open(self.at("changes/dates.db"), "wb") as file:
             file.write(b"x" * 9000)
         self.begin("who")
+        self.refuses()
+        # Nor once the last night's list is taken: lines of before may have gone.
+        self.keeper.catch_up()
+        self.keeper.take_night()
         self.refuses()
 
     def test_what_an_import_changed(self) -> None:

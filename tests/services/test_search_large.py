@@ -10,8 +10,8 @@ from dated_door import line
 from large_over import SMALL
 from rooms_admin.room import in_parts
 from rooms_services.door.search import search
-from rooms_services.texts import night, nights
-from rooms_services.texts.sink import State
+from rooms_services.document_texts import night, nights
+from rooms_services.document_texts.sink import State
 from searching import Searching
 
 LINES = ["eine Kündigung", *(f"Zeile {number} {number * 7919 % 1000}" for number in range(900))]
@@ -80,6 +80,45 @@ class Large(Searching):
         _, said = self.search("eine zeile", "f/plan", "bob")
         self.assertEqual((said["found"], said["without"]), ([], 1))
         self.assertEqual(self.found("eine zeile"), {"/f/plan": 901})
+
+    def test_what_somebody_lays_beside_a_document(self) -> None:
+        """Under names of parts, each closed to others: of a small document, and of a large one that
+        has no such part."""
+        def is_there() -> None:
+            said = self.search("kündigung", user="bob")[1]
+            found = said["found"]
+            assert isinstance(found, list)
+            self.assertEqual([one["path"] for one in found], ["/f/note", "/f/plan"])
+            self.assertEqual((said["without"], said["all"]), (0, True))
+        laid = f"note{in_parts.MARK}0001", f"plan{in_parts.MARK}9998"
+        for name in laid:
+            self.room.objects["f", name] = b""
+            self.room.denied.add(("bob", f"/f/{name}", "r"))
+        self.make_night()
+        is_there()
+        # What changed by day is the same.
+        for name in "note", "plan":
+            self.add(line("alice", "PUT", f"/doc/f/{name}", 204, 3, at=time.time()))
+        time.sleep(0.002)
+        is_there()
+
+    def test_a_night_of_an_earlier_version(self) -> None:
+        """It doesn't say of which parts a document is."""
+        self.make_night()
+        self.room.denied.add(("bob", f"/f/plan{in_parts.MARK}0002", "r"))
+        place = nights.place("office", nights.moments("office")[-1])
+        os.unlink(os.path.join(place, "parts"))
+        self.assertEqual(self.search("eine zeile", user="bob")[1]["found"], [])
+
+    def test_a_closed_part_of_what_changed_by_day(self) -> None:
+        """No record says that somebody tried it."""
+        self.make_night()
+        self.room.denied.add(("bob", f"/f/plan{in_parts.MARK}0002", "r"))
+        self.add(line("alice", "PUT", "/doc/f/plan", 204, 3, at=time.time()))
+        time.sleep(0.002)
+        self.assertFalse([one for one in self.asked("zeile", "bob") if "/doc/f/plan~" in one])
+        said = self.search("zeile", user="bob")[1]
+        self.assertEqual((said["found"], said["without"]), ([], 1))
 
     def test_nothing_tells_what_is_in_a_closed_part(self) -> None:
         """Neither the answer nor what is asked for it."""

@@ -8,12 +8,14 @@ import socket
 import sqlite3
 import tempfile
 import threading
+import tracemalloc
 import unittest
 from unittest import mock
 
-from rooms_services.texts import folding, keeper, night, nights
-from rooms_services.texts.sink import State
-from rooms_services.texts.store import MOST_FOLDED, NoStore, Store
+from rooms_admin.room import in_parts
+from rooms_services.document_texts import folding, keeper, night, nights
+from rooms_services.document_texts.sink import State
+from rooms_services.document_texts.store import MOST_FOLDED, NoStore, Store
 
 Tree = dict[str, bytes | None]
 
@@ -188,7 +190,7 @@ class Stores(Based):
 
     def test_a_night_that_is_cut_off(self) -> None:
         """At each of its steps: the last store or the new one, and the next night is whole."""
-        steps = ("os.fsync", "os.rename", "rooms_services.texts.nights.keep_only")
+        steps = ("os.fsync", "os.rename", "rooms_services.document_texts.nights.keep_only")
         for step in steps:
             for turn in range(1, 5):
                 with self.subTest(step, turn=turn):
@@ -221,6 +223,27 @@ class Stores(Based):
         store = Store(nights.place("office", 5))
         self.assertEqual(store.match([b"x"], numbers.values()).empty, 1)
         self.assertLess(os.path.getsize(f"{nights.place('office', 5)}/texts"), MOST_FOLDED + 1)
+
+    def test_what_is_remembered_of_each(self) -> None:
+        """Its name, and neither its path nor a list of parts that somebody made up."""
+        way = ""
+        tree: Tree = {}
+        for _ in range(15):
+            way += "/" + "d" * 250
+            tree[way] = None
+        parts = tuple((number, "0" * 64) for number in range(1, 31))
+        for number in range(2000):
+            tree[f"{way}/{number}"] = in_parts.Manifest(
+                30 * in_parts.LARGEST, f"{number:064}", parts).text()
+        numbers = copy(f"{self.folder}/copy", tree)
+        tracemalloc.start()
+        night.Night("office", self.reads, 60.0).make(f"{self.folder}/copy", 5, "2026-11-30.020000")
+        taken = tracemalloc.get_traced_memory()[1]
+        tracemalloc.stop()
+        self.assertLess(taken, 2000 * 1500)
+        self.assertEqual(Store(nights.place("office", 5)).parts([numbers[f"{way}/7"]]), [[]])
+        with open(f"{self.folder}/office/{night.LIST}", encoding="utf-8") as out:
+            self.assertIn(f"\nbroken,{way}/1999\n", out.read())
 
     def test_what_somebody_made_up(self) -> None:
         """A copy is whatever somebody wrote who had the server in their hands."""

@@ -4,13 +4,14 @@ import random
 import shutil
 import subprocess
 import tempfile
+import time
 import tracemalloc
 import unicodedata
 import unittest
 
 import papers
-from rooms_services.texts import extract, folding, scan, store
-from rooms_services.texts.sink import MOST_TEXT, State
+from rooms_services.document_texts import extract, folding, scan, store
+from rooms_services.document_texts.sink import MOST_TEXT, State
 
 LINES = ["Kündigung der Straße 5 & Grüße <an> Müller", "Über Œuvre, naïve Ärzte: 12.345 €",
          "Zeile drei mit {Klammern} \\ und (runden)"]
@@ -176,6 +177,12 @@ class Folding(unittest.TestCase):
         self.assertEqual(folding.around("\ufdfa" * 3000 + "ziel", "ziel")[1], "ziel")
         self.assertEqual(folding.around("Straße", "as"), ["Str", "aß", "e"])
         self.assertEqual(folding.around("nothing", "zz"), [])
+        # Of marks that somebody has piled up no more than a few lines are shown.
+        for text in ("xy" + "\u0301" * 300_000, "x" + "\u0301" * 300_000 + "y"):
+            began = time.process_time()
+            _, word, behind = folding.around(text, "xy")
+            self.assertEqual((len(word), len(behind)), (folding.WORD, folding.BEHIND))
+            self.assertLess(time.process_time() - began, 1)
 
 
 if __name__ == "__main__":

@@ -1,5 +1,5 @@
 # Who waits while a room's server is started anew: types and style, its parts, and the program,
-# which is started anew while twenty users ask it. (Under systemd, behind nginx: install/restarts.)
+# which is started anew while twenty users ask it. (Under systemd, behind nginx: machine/restarts.)
 
 if ! has python3; then
   skip 'who waits for a server' 'python3 is missing'

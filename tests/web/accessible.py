@@ -12,7 +12,7 @@ from browser import Browser, Checks
 from people import Names, day
 from selenium.webdriver.common.keys import Keys
 
-DESK, ZOOMED, NARROW = (1280, 900), (640, 450), (320, 640)
+DESK, ZOOMED, NARROW, PHONE = (1280, 900), (640, 450), (320, 640), (390, 844)
 VIEWS = ['#/', '#/letters', '#/letters?access', '#/letters?rights', '#/letters?dacl',
          '#/letters?sacl', '#/letters?earlier', '#/letters/reply.txt?show',
          '#/letters/reply.txt?access', '#/none']
@@ -101,6 +101,19 @@ if (wide > arguments[0]) {
 }
 return found;
 """
+# What can be pressed and is less high or less wide than this. A field's own label may be pressed in
+# its place.
+SMALL = """
+const least = arguments[0];
+return [...document.querySelectorAll('a, button, input, select, textarea, summary, [role=option]')]
+  .filter((one) => one.checkVisibility({ checkVisibilityCSS: true })
+    && !one.closest('.skip, .unseen, .folder-view > input'))
+  .flatMap((one) => {
+    const { width, height } = (one.closest('label') ?? one).getBoundingClientRect();
+    return width + 0.5 < least || height + 0.5 < least
+      ? [`${one.outerHTML.slice(0, 100)} ${width.toFixed(1)} x ${height.toFixed(1)}`] : [];
+  });
+"""
 # Whether what has the focus is wholly covered by something else.
 HIDDEN = """
 const one = document.activeElement;
@@ -152,6 +165,7 @@ class Accessible:
         for path in ('/letters', '/letters/2026', '/letters/board'):
             self.ask('POST', f'/folder{path}')
         self.ask('PUT', '/doc/letters/reply.txt', b'Dear all')
+        self.ask('PUT', '/dacl/letters/2026', b'list:a\nA:fd:eve:rxtc\n')
         for number in range(30):
             self.ask('PUT', f'/doc/letters/Reply%20to%20the%20council%20{number}.txt', b'x')
         self.ask('PUT', '/dacl/letters', b'list:ap\nA:fd:alice:rwanNxDtThHdcCoy\nA:fd:zoe:rxtc\n'
@@ -224,6 +238,25 @@ class Accessible:
                 assert size == '32px' and found == [], (place, size, found)
         finally:
             large.quit()
+
+    def targets(self, size):
+        """2.5.8: what can be pressed is at least 24 px high and wide."""
+        alice = self.alice
+        for place in self.views(size):
+            assert alice.script(SMALL, 24) == [], (place, size, alice.script(SMALL, 24))
+        for place in self.states():
+            assert alice.script(SMALL, 24) == [], (place, size, alice.script(SMALL, 24))
+        for place, words in (('#/letters?access', 'Exceptions further down'),
+                             ('#/letters/2026?access', 'One person, here and further down')):
+            alice.open(place)
+            alice.unfold(words)
+            alice.until(lambda: not alice.all('.looking'), 'all of it')
+            assert alice.script(SMALL, 24) == [], (words, size, alice.script(SMALL, 24))
+        alice.open('')
+        alice.write('.tools input', 'council 1')
+        alice.press('Find further down')
+        alice.until(lambda: len(alice.all('.found a.hint')) == 11, 'what is found')
+        assert alice.script(SMALL, 24) == [], (size, alice.script(SMALL, 24))
 
     def keys(self):
         """2.1.4: a single sign does something only while the rows have the focus."""
@@ -362,7 +395,10 @@ def main():
                 ('contrast on a telephone', lambda: play.contrast(True, NARROW)),
                 ('reflow at 320 px', lambda: play.reflow(NARROW)),
                 ('reflow at 200 %', lambda: play.reflow(ZOOMED)),
-                ('text of 200 %', play.larger_text), ('single keys', play.keys),
+                ('text of 200 %', play.larger_text),
+                ('what is pressed on a telephone', lambda: play.targets(PHONE)),
+                ('what is pressed on a desk', lambda: play.targets(DESK)),
+                ('single keys', play.keys),
                 ('a focus that nothing hides', play.covered),
                 ('what is heard', play.heard), ('what is read aloud', play.aloud)):
             checks.step(name, act)

@@ -197,6 +197,13 @@ class Browser:
         self.driver.execute_cdp_cmd('Emulation.setDeviceMetricsOverride', {
             'width': width, 'height': height, 'deviceScaleFactor': 1, 'mobile': width < 600})
 
+    def touch(self, x, y):
+        """As a finger there, which the browser may take to what is beside it."""
+        point = [{'x': x, 'y': y}]
+        for kind, points in (('touchStart', point), ('touchEnd', [])):
+            self.driver.execute_cdp_cmd('Input.dispatchTouchEvent',
+                                        {'type': kind, 'touchPoints': points})
+
     def dark(self, dark=True):
         value = 'dark' if dark else 'light'
         self.driver.execute_cdp_cmd('Emulation.setEmulatedMedia', {

@@ -2,6 +2,8 @@
 // the list, and who may then remove the object, or what others made in it: {unsaid, wrong}.
 
 import { namesIn } from './said.mjs';
+import { GROUPS } from './trees.mjs';
+import { REAL } from './worlds.mjs';
 
 const INSIDE = new RegExp('^(.*) may (?:then remove, rename and move away what others made in this '
   + 'folder|put documents here, and no entry says who may remove)');
@@ -10,10 +12,20 @@ const SURELY = /^After this you may no longer (change|see) this list/;
 
 const namedBy = (warnings, pattern) => warnings.flatMap((text) => pattern.exec(text)?.[1] ?? []);
 
-// 'callers' are others than me, 'covers(names, caller)' says whether a sentence's names mean one,
-// and 'mine' is me. 'paths' are what lies below.
+// Whether an entry lets a caller remove something in folders that may come there, or put something
+// into these, by which they remove what is there: there may be none of which a review could say so.
+function reachesFolders(sent, { user, groups, world }) {
+  const all = world === REAL ? Object.keys(GROUPS).filter((one) => GROUPS[one].includes(user))
+    : groups;
+  return sent.split('\n').slice(1).map((line) => line.split(':')).some(([type, flags, who, mask]) =>
+    type === 'A' && flags.includes('d') && /[dDw]/.test(mask)
+      && (who.endsWith('@') || (flags.includes('g') ? all.includes(who) : who === user)));
+}
+
+// 'callers' are others than me, and 'all' are those whom a sentence may name too; 'covers(names,
+// caller)' says whether its names mean one, and 'mine' is me. 'paths' are what lies below.
 export function judgeWritten({ path, kind, warnings, loss, sent },
-  { callers, covers, mine, paths, before, after }) {
+  { callers, all, covers, mine, paths, before, after }) {
   const found = { unsaid: [], wrong: [], compared: 2 * callers.length, differ: 0 };
   const gains = (caller, one) => !before.at(one, caller).removes && after.at(one, caller).removes;
   const manages = (caller) => after.at(path, caller).letters.includes('C');
@@ -26,17 +38,15 @@ export function judgeWritten({ path, kind, warnings, loss, sent },
       }
     }
     const isOf = (one) => one === mine.user || /^\d+ others?$/.test(one)
-      || callers.some((caller) => covers(one, caller) && isSo(caller));
+      || all.some((caller) => covers(one, caller) && isSo(caller));
     for (const one of names.flatMap(namesIn).filter((some) => !isOf(some))) {
       found.wrong.push(`${one} can’t remove ${what} ${path}`);
     }
   };
   const removes = (caller) => (one) => after.at(one, caller).removes;
-  // Folders may have other rights than what is there.
-  const reachesFolders = /^A:\w*d\w*:[^:]*:\w*[dD]/m.test(sent);
   if (kind === 'folder') {
-    told('what is in', namedBy(warnings, INSIDE), `${path}/other`, (caller) => reachesFolders
-      || paths.some(removes(caller)));
+    told('what is in', namedBy(warnings, INSIDE), `${path}/other`, (caller) =>
+      reachesFolders(sent, caller) || paths.some(removes(caller)));
   }
   told('', namedBy(warnings, ITSELF), path, (caller) => gains(caller, path));
   const [had, has] = [before, after].map((state) => state.at(path, mine).letters);

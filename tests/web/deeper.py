@@ -3,6 +3,7 @@ down."""
 
 from people import day, people
 
+ALL = 'rwanNxDtThHdcCoy'
 # Answers for requests whose target ends so, from now on in this page: 'COUNT' of them go through
 # first.
 REFUSE = """
@@ -143,6 +144,37 @@ class Deeper:
                        for line in self.own_of(path))
         self.names.put('mine/dana.json', None)
         for path in ('/letters/2026/spring/drafts', '/letters/2026/spring'):
+            self.ask('DELETE', f'/object{path}')
+
+    def off_this_list(self):
+        """A line goes whose one has something from the folder above too; what stays by that is
+        said."""
+        alice = self.alice
+        for path in ('/both', '/both/in'):
+            self.ask('POST', f'/folder{path}')
+        self.put_list('/both', 'list:a', f'A:fd:zoe:{ALL}', 'A:fd:kim:rxtc', 'A:fdg:staff:rxtc')
+        kept = ['D:d:EVERYONE@:Dd', 'A:fdg:sales:rwaxtc', 'A:fi:OWNER@:d']
+        self.put_list('/both/in', 'list:a', f'A:fd:kim:{ALL}', f'A:fd:zoe:{ALL}', *kept,
+                      'A:fdg:staff:rxtc')
+        left = [f'A:fd:kim:{ALL}', f'A:fd:zoe:{ALL}', *kept, 'A:fdg:staff:rxtc']
+        for shown, who, words, outcome in (
+                ('the group staff', 'A:fdg:staff:rxtc', '“Can read” stays, from “both”.',
+                 'Nobody gains or loses anything'),
+                ('kim', f'A:fd:kim:{ALL}', '“Can read” stays, from “both”.',
+                 'kim – can manage now, then can read'),
+                ('zoe', f'A:fd:zoe:{ALL}',
+                 '“Can manage, removes no folders here” stays, from “both”.',
+                 'can’t remove folders there any more')):
+            self.panel('/both/in')
+            alice.press(f'Take off this list: {shown}')
+            alice.until(lambda: alice.all('dialog .outcome[aria-busy=false]'), 'the question')
+            told = alice.texts('dialog')[0]
+            assert 'Take off the list of “in”?' in told and words in told, told
+            assert outcome in told, told
+            self.confirm('Take off this list')
+            left.remove(who)
+            assert self.own_of('/both/in') == left, self.own_of('/both/in')
+        for path in ('/both/in', '/both'):
             self.ask('DELETE', f'/object{path}')
 
     def way_back_unsure(self):

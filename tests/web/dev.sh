@@ -15,7 +15,7 @@ done
 holds 'three users are served' grep -q '^carol: ' "$work/dev.out"
 of() { curl -s "http://127.0.0.1:$((port + $1))$2" "${@:3}"; } # USER TARGET ..
 status_of() { of "$1" "$2" -o "$work/body" -w '%{http_code}' "${@:3}"; }
-holds 'the page' grep -q 'src="app.js"' <<<"$(of 0 /)"
+holds 'the page' grep -q 'src="start.js"' <<<"$(of 0 /)"
 holds 'a module, by its name' grep -q "from './api.js'" <<<"$(of 0 /folder.js)"
 holds 'no other file' [ "$(status_of 0 /README.md)" = 404 ]
 users=(alice bob carol)

@@ -119,9 +119,15 @@ class Documents:
         alice = self.alice
         alice.act('Rename or move', 'Report 2.txt')
         alice.write('dialog input', 'Report 10.txt')
-        alice.press('Move it', 'dialog')
+        alice.press('Rename it', 'dialog')
         alice.says('There is already something of this name', css='dialog .wrong .hint')
         assert alice.one('dialog input').get_attribute('value') == 'Report 10.txt'
+        # It is said whether only the name is another one.
+        buttons = 'dialog .actions button'
+        alice.press('The folder above', 'dialog')
+        alice.until(lambda: alice.texts(buttons) == ['Cancel', 'Move it'], 'a move')
+        alice.press('letters', 'dialog .chooser')
+        alice.until(lambda: alice.texts(buttons) == ['Cancel', 'Rename it'], 'a name')
         alice.press('Cancel', 'dialog')
         assert self.ask('GET', '/doc/letters/Report%202.txt') == 'two'
 

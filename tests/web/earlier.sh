@@ -1,5 +1,5 @@
 # A clerk without root loses a folder and gets it back with yesterday's state, in Chromium and in
-# Firefox.
+# Firefox. With ROOMS_LARGE=80 a scan has 80 MB.
 
 . "$here/lib/earlier.sh"
 . "$here/lib/browsers.sh"
@@ -31,7 +31,7 @@ with open(name, "wb") as out:
     out.write(in_parts.Manifest(size, whole.digest, tuple(parts)).text())
 ' "$repo/admin" "$1"
 }
-yes 'a line of a scan' | head -c 2200000 >scan.txt
+yes 'a line of a scan' | head -c "${ROOMS_LARGE:-2}200000" >scan.txt
 parts_of scan.txt
 # Alice manages letters, bob works there, eve reads. Two nights later bob has lost his folder.
 begin() {

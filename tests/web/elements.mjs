@@ -4,36 +4,54 @@
 const PROPERTIES = ['id', 'name', 'type', 'title', 'href', 'lang', 'dir'];
 const FLAGS = ['disabled', 'hidden', 'open', 'autofocus'];
 
-// One part of a selector, such as 'button.primary:not([disabled])'.
-function fits(one, part) {
-  const rest = part.replace(/:not\(([^)]*)\)/g, (_, inner) =>
-    (fits(one, inner) ? ' never' : ''));
-  if (rest.endsWith(' never')) return false;
-  const marks = rest.match(/^[a-z]+[0-9]?|\.[\w-]+|#[\w-]+|\[[^\]]+\]|:[\w-]+/g) ?? [];
-  return marks.every((mark) => {
-    if (mark.startsWith('.')) return one.classList.contains(mark.slice(1));
-    if (mark.startsWith('#')) return one.getAttribute('id') === mark.slice(1);
-    if (mark === ':last-child') return one.parentNode?.children.at(-1) === one;
-    if (mark.startsWith(':')) return one[mark.slice(1)] === true;
-    const [, name, value] = /^\[([\w-]+)(?:="?([^"]*)"?)?\]$/.exec(mark) ?? [];
-    if (name === undefined) return one.tagName === mark.toUpperCase();
-    return value === undefined ? one.hasAttribute(name) : one.getAttribute(name) === value;
-  });
+// What one sign of a selector asks for, such as '.primary'.
+function signTest(sign) {
+  if (sign.startsWith('.')) return (one) => one.classList.contains(sign.slice(1));
+  if (sign.startsWith('#')) return (one) => one.getAttribute('id') === sign.slice(1);
+  if (sign === ':last-child') return (one) => one.parentNode?.children.at(-1) === one;
+  if (sign.startsWith(':')) return (one) => one[sign.slice(1)] === true;
+  const [, name, value] = /^\[([\w-]+)(?:="?([^"]*)"?)?\]$/.exec(sign) ?? [];
+  if (name === undefined) return (one) => one.tagName === sign.toUpperCase();
+  return value === undefined ? (one) => one.hasAttribute(name)
+    : (one) => one.getAttribute(name) === value;
 }
 
-function matchesOne(one, selector) {
-  const parts = selector.trim().split(/\s+/).reverse();
-  if (!fits(one, parts[0])) return false;
-  let [at, next] = [one, 1];
-  while (next < parts.length) {
-    const isChild = parts[next] === '>';
-    const part = parts[isChild ? next + 1 : next];
-    at = at.parentNode;
-    while (at && !isChild && !fits(at, part)) at = at.parentNode;
-    if (!at || !fits(at, part)) return false;
-    next += isChild ? 2 : 1;
+const NOT = /:not\(([^)]*)\)/g;
+// One part of a selector, such as 'button.primary:not([disabled])'.
+function partTest(part) {
+  const never = [...part.matchAll(NOT)].map(([, inner]) => partTest(inner));
+  const always = (part.replace(NOT, '')
+    .match(/^[a-z]+[0-9]?|\.[\w-]+|#[\w-]+|\[[^\]]+\]|:[\w-]+/g) ?? []).map(signTest);
+  return (one) => always.every((test) => test(one)) && !never.some((test) => test(one));
+}
+
+// One of several selectors, from its last part on: a part that has a child is after '>'.
+function oneTest(selector) {
+  const [last, ...parts] = selector.trim().split(/\s+/).reverse();
+  const test = partTest(last);
+  const steps = [];
+  for (const [at, part] of parts.entries()) {
+    if (part !== '>') steps.push({ isParent: parts[at - 1] === '>', test: partTest(part) });
   }
-  return true;
+  return (one) => {
+    let at = test(one) ? one : null;
+    for (const step of steps) {
+      at &&= at.parentNode;
+      while (at && !step.isParent && !step.test(at)) at = at.parentNode;
+      if (!at || !step.test(at)) return false;
+    }
+    return at !== null;
+  };
+}
+
+// A selector is read once.
+const tests = new Map();
+function testOf(selector) {
+  if (!tests.has(selector)) {
+    const all = selector.split(',').map(oneTest);
+    tests.set(selector, (one) => all.some((test) => test(one)));
+  }
+  return tests.get(selector);
 }
 
 class Text {
@@ -49,7 +67,7 @@ class Element extends EventTarget {
       dataset: {}, style: { setProperty() {} }, parentNode: null, checked: false,
       validity: { badInput: false }, own: undefined });
     this.classList = {
-      contains: (name) => this.className.split(' ').includes(name),
+      contains: (name) => ` ${this.className} `.includes(` ${name} `),
       add: (name) => this.classList.toggle(name, true),
       remove: (name) => this.classList.toggle(name, false),
       toggle: (name, on = !this.classList.contains(name)) => {
@@ -143,18 +161,33 @@ class Element extends EventTarget {
     this.parentNode = null;
   }
 
-  matches(selector) { return selector.split(',').some((one) => matchesOne(this, one)); }
+  matches(selector) { return testOf(selector)(this); }
 
   closest(selector) {
     return this.matches(selector) ? this : this.parentNode?.closest(selector) ?? null;
   }
 
   querySelectorAll(selector) {
-    return this.children.flatMap((one) =>
-      [...one.matches(selector) ? [one] : [], ...one.querySelectorAll(selector)]);
+    const found = [];
+    this.gather(testOf(selector), found, false);
+    return found;
   }
 
-  querySelector(selector) { return this.querySelectorAll(selector)[0] ?? null; }
+  querySelector(selector) {
+    const found = [];
+    this.gather(testOf(selector), found, true);
+    return found[0] ?? null;
+  }
+
+  // Those in it that pass a test, or the first of them.
+  gather(test, found, isOne) {
+    for (const node of this.nodes) {
+      if (isOne && found.length > 0) return;
+      if (!(node instanceof Element)) continue;
+      if (test(node)) found.push(node);
+      node.gather(test, found, isOne);
+    }
+  }
 
   click() {
     if (this.disabled) return;

@@ -22,7 +22,7 @@ sets office DATES who
 start_front 'how long the page takes' tls || return
 start_door office --changes "$PWD/changes/office" --dates=who
 [ -n "${ROOMS_FIGURES-}" ] && sizes=(1000 10000 30000) || sizes=(150 300 600)
-python3 -IB "$here/lib/delay.py" $((port + 7)) "$secure" 100 >line.out 2>line.err &
+python3 -IB "$here/web/delay.py" $((port + 7)) "$secure" 100 >line.out 2>line.err &
 line=$!
 others+=("$line")
 until [ -s line.out ]; do sleep 0.05; done

@@ -29,6 +29,29 @@ window.fetch = async (target, words) => {
   return new Response(JSON.stringify(told), { status });
 };
 """
+# Tells so much, shows a panel with so many rows, and answers with what of these or of the buttons
+# at the top is partly below something else.
+HIDDEN = """
+const [messages, rows, done] = arguments;
+const spots = [0.05, 0.5, 0.95];
+const isFree = (one) => {
+  const { left, top, width, height } = one.getBoundingClientRect();
+  return spots.every((x) => spots.every((y) =>
+    one.contains(document.elementFromPoint(left + width * x, top + height * y))));
+};
+Promise.all(['messages', 'panel'].map((name) => import(`./${name}.js`)))
+  .then(([{ tell }, { newPanel }]) => {
+    for (let at = 0; at < messages; at += 1) tell('bad', `${'This wasn’t done. '.repeat(12)}${at}`);
+    const panel = rows > 0 ? newPanel('Uploads', 'Uploads') : null;
+    for (let at = 0; at < rows; at += 1) {
+      panel.rows.append(document.createElement('li'));
+      panel.rows.lastChild.textContent = `part ${at}`;
+    }
+    const all = [...document.querySelectorAll('main .phone button, #notices, #uploads')];
+    done(all.filter((one) => one.checkVisibility() && !isFree(one)).map((one) =>
+      one.id || one.ariaLabel));
+  });
+"""
 ROWS = """return [...document.querySelectorAll('tbody tr')].map((row) =>
   [...row.cells].map((cell) => cell.checkVisibility() ? cell.innerText.trim() : '')
     .filter((text) => text !== ''))"""
@@ -189,10 +212,21 @@ class FirstScreen:
         alice.press('Access', '.menu')
         alice.until(lambda: alice.all('.holders'), 'who has access')
 
+    def messages(self):
+        """However much is told, it leaves the '+' free, and nothing lies above it."""
+        alice = self.alice
+        for size in (PHONE, (320, 640), (800, 600)):
+            self.opened(self.usual(), size)
+            for messages, rows in ((1, 0), (3, 30)):
+                hidden = alice.driver.execute_async_script(HIDDEN, messages, rows)
+                assert hidden == [], (size, messages, rows, hidden)
+
     def deep(self):
         """However deep, the head stays one line, with the folder and the one above it."""
         alice = self.alice
         self.opened(self.usual(), (320, 640), '#/papers/2026/deep')
+        assert alice.texts('.sheet .empty') == [
+            'Nothing is in this folder yet.\nAdd something by “+”.'], alice.texts('.sheet .empty')
         assert alice.texts('#path li') == ['2026', 'deep'], alice.texts('#path li')
         assert alice.one('header').size['height'] < 56
         alice.click(alice.one('#home'))
@@ -241,6 +275,7 @@ PLAY = [
     ('a room that tells less', FirstScreen.fewer), ('no answer', FirstScreen.away),
     ('what is not so', FirstScreen.lies), ('on a telephone', FirstScreen.on_a_telephone),
     ('its menus', FirstScreen.by_its_menus), ('a deep folder', FirstScreen.deep),
+    ('messages on a telephone', FirstScreen.messages),
     ('who may not', FirstScreen.lacks), ('what is new', FirstScreen.news),
 ]
 

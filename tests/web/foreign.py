@@ -8,6 +8,7 @@ import http.server
 import signal
 import sys
 import threading
+import time
 
 from browser import Browser, Checks
 
@@ -114,6 +115,33 @@ def followed(browser, base, log, there):
     browser.driver.get(there)
 
 
+def steered(browser, base, log, there):
+    """A window with the page, that it opened by a press, isn't its own any more: else it would lead
+    the page on and on, each time with a request in the user's name."""
+    driver = browser.driver
+    before = len(lines(log))
+    browser.script("""
+const press = document.createElement('button');
+press.textContent = 'open';
+press.onclick = () => { window.opened = open(`${arguments[0]}/#/letters`); };
+document.body.append(press);
+""", base)
+    driver.find_element('css selector', 'button').click()
+
+    def asked(place):
+        return [line for line in lines(log)[before:] if place in line[2]]
+    browser.until(lambda: asked('/folder/letters'), 'the page')
+    browser.script("opened.location = arguments[0]", f'{base}/#/steered')
+    time.sleep(2)
+    told = asked('steered')
+    for window in driver.window_handles[1:]:
+        driver.switch_to.window(window)
+        driver.close()
+    driver.switch_to.window(driver.window_handles[0])
+    driver.get(there)
+    assert told == [], told
+
+
 def framed(browser, base):
     browser.script("const frame = document.createElement('iframe'); frame.src = arguments[0]; "
                    "document.body.append(frame);", base)
@@ -134,6 +162,8 @@ def play(browser, checks, base, there, log, is_near):
     if says_site:
         checks.step(f'{name} a picture', lambda: shown(browser, base, log))
     checks.step(f'{name} a link', lambda: followed(browser, base, log, there))
+    if says_site:
+        checks.step(f'{name} a window', lambda: steered(browser, base, log, there))
     for kind, method, path, how in ATTACKS:
         checks.step(f'{name} {kind} {method} {path}', lambda: attack(browser, base, log, path, how))
     for path in ('/move/letters', '/folder/evil'):

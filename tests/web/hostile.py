@@ -3,9 +3,11 @@
 Each script would leave a word in the browser's store of this site, and change the title."""
 
 import base64
+import io
 import signal
 import sys
 import urllib.request
+import zipfile
 
 from browser import Browser, Checks
 
@@ -17,6 +19,14 @@ XHTML = (f'<?xml version="1.0"?><html xmlns="http://www.w3.org/1999/xhtml"><head
          '</script><title>x</title></head><body/></html>')
 PAPERS = {'page.html': HTML, 'picture.svg': SVG, 'page.xhtml': XHTML, 'called.pdf': HTML,
           'called.png': HTML, 'called.txt': HTML}
+# Some kilobytes that say 400 MB of blanks, or of a text that stands in each cell.
+BLANKS = ('<d xmlns:text="urn:t"><body>' + '<text:s text:c="100000000"/>' * 4
+          + '<text:s text:c="1000"/>' * 20000 + '<p>end</p></body></d>')
+SHARED = f'<sst><si><t>{"x" * 1000000}</t></si></sst>'
+CELL = '<c t="s"><v>0</v></c>'
+SHEET = f'<worksheet><row>{CELL * 400}</row></worksheet>'
+BOMBS = {'blanks.odt': {'content.xml': BLANKS},
+         'cells.xlsx': {'xl/sharedStrings.xml': SHARED, 'xl/worksheets/sheet1.xml': SHEET}}
 # Behind which the bytes of a document stand.
 WAYS = ['doc/bad/', 'door/doc/bad/', 'drive/bad/']
 EVIL = "return [localStorage.getItem('evil'), document.title === 'evil']"
@@ -80,6 +90,20 @@ class Hostile:
             alice.until(is_open, 'a tab')
         self.is_harmless('a tab')
 
+    def of_little_bytes(self):
+        """What a few bytes say a million times isn't shown."""
+        alice = self.alice
+        self.ask('POST', 'folder/bombs')
+        for name, parts in BOMBS.items():
+            made = io.BytesIO()
+            with zipfile.ZipFile(made, 'w', zipfile.ZIP_DEFLATED) as packed:
+                for part, text in parts.items():
+                    packed.writestr(part, text)
+            self.ask('PUT', f'doc/bombs/{name}', made.getvalue())
+            alice.open(f'#/bombs/{name}?show')
+            alice.until(lambda: alice.all('.shown-document > *'), name)
+            assert 'no preview' in alice.one('.shown-document').text, name
+
     def by_address(self):
         """Nothing is shown as a page of this site, whatever leads there."""
         alice = self.alice
@@ -101,7 +125,8 @@ class Hostile:
 
 
 PLAY = [('hostile documents in the page', Hostile.looked_at),
-        ('one in a tab', Hostile.in_a_tab), ('by their addresses', Hostile.by_address)]
+        ('one in a tab', Hostile.in_a_tab), ('of little bytes', Hostile.of_little_bytes),
+        ('by their addresses', Hostile.by_address)]
 
 
 def main():

@@ -162,8 +162,14 @@ class InTexts:
     def none(self):
         alice = self.opened(says=told([], all=False))
         self.looked('june')
+        alice.says('No text that was looked through', css='.found-in-texts')
+        alice.says('Not all could be looked through', css='.found-in-texts')
+        alice.script('window.says = arguments[0]', told([]))
+        # A link to the open folder leads back to it.
+        alice.click(alice.one('#home'))
+        alice.until(lambda: 'letter.txt' in alice.names(), 'the rows again')
+        self.looked('june')
         alice.says('No text of a document that you may read', css='.found-in-texts')
-        alice.says('There are more', css='.found-in-texts')
         # One letter is looked for in names alone.
         alice.script('window.asked = []')
         self.looked('j')

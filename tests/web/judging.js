@@ -31,7 +31,11 @@ Promise.all(modules).then(([{ readEntry, printEntry }, { passedDown }, words, si
     ['a\u200db', 'a[U+200D]b'], ['\ufeffa', '[U+FEFF]a'], ['a\u{e0041}', 'a[U+E0041]'],
     ['\u{1f468}\u200d\u{1f467}', '\u{1f468}\u200d\u{1f467}'], ['\u2764\ufe0f', '\u2764\ufe0f'],
     ['\u0645\u06cc\u200c\u062e', '\u0645\u06cc\u200c\u062e'], ['שלום "x"', 'שלום "x"'],
-    ['e\u0301', 'e\u0301'],
+    ['e\u0301', 'e\u0301'], ['e\u0301\u200d', 'e\u0301[U+200D]'],
+    ['a\ufe00', 'a[U+FE00]'], ['1\ufe0f', '1[U+FE0F]'], ['1\ufe0f\u20e3', '1\ufe0f\u20e3'],
+    ['\u2764\ufe0f\ufe0f', '\u2764\ufe0f[U+FE0F]'], ['\u845b\u{e0100}', '\u845b\u{e0100}'],
+    ['a\u{e0100}', 'a[U+E0100]'], ['a\u3000', 'a[U+3000]'], ['a\u180f', 'a[U+180F]'],
+    ['\u2764\ufe0f\u200d\u{1f525}', '\u2764\ufe0f\u200d\u{1f525}'],
     ['   ', '[space]'], ['a\u3164', 'a[U+3164]']]) {
     equal(`signs of ${JSON.stringify(name)}`, signs.marked(name), wanted);
   }

@@ -96,12 +96,13 @@ class Languages:
         return [one for one in targets if one == '/' or one.startswith('/page-')]
 
     def files(self):
-        """Five at the first visit: page, script, a language, style and sign. One later."""
+        """Six at the first visit: page, its two scripts, the texts of the browser's language alone,
+        style and sign. One later."""
         user = self.begin('files', 'fr')
         first = self.asked(lambda: user.open('#/'))
-        assert len(first) == len(set(first)) == 5, first
+        assert len(first) == len(set(first)) == 6, first
         endings = sorted(one.rpartition('.')[2] for one in first)
-        assert endings == ['/', 'css', 'js', 'js', 'svg'], first
+        assert endings == ['/', 'css', 'js', 'js', 'js', 'svg'], first
         later = self.asked(lambda: user.open('#/letters'))
         assert later == ['/'], later
         user.quit()
@@ -136,6 +137,8 @@ class Languages:
             day.value = '2099-05-31'; day.dispatchEvent(new Event('change'))""")
         alice.until(lambda: any(UNTIL[language] in one for one in alice.texts('.said')), 'the day')
         self.fits()
+        alice.until(lambda: alice.script(
+            "return document.querySelector('.adding .primary').disabled === false"), 'all of it')
         alice.press(SHARE[language], '.adding')
         alice.says('Bob Lindqvist', UNTIL[language])
         assert 'A:fd:bob:rxtc' in self.ask('GET', '/dacl/letters')

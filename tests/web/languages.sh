@@ -3,7 +3,7 @@
 
 if has node &&
   node -e 'process.exit(Number(process.versions.node.split(".")[0]) < 18 ? 1 : 0)'; then
-  "$repo/deploy/bundle.py" "$PWD/page"
+  "$repo/tools/bundle.py" "$PWD/page"
   echo '{"type":"module"}' >page/package.json
   timeout 120 node "$here/web/languages.mjs" "$repo/web" page >"$work/out" 2>"$work/err"
   if [ "$(tail -n 1 "$work/out")" = '0 told' ]; then

@@ -17,8 +17,14 @@ from browser import PATIENCE, Browser, Checks
 from firefox import Firefox, has_firefox
 
 ALL = 'rwanNxDtThHdcCoy'
+PIECE = 1 << 20
 CHANGED = 'Somebody else changed it meanwhile'
 WORKS = (f'A:fd:alice:{ALL}', 'D:d:EVERYONE@:Dd', 'A:fdg:staff:rwaxtc', 'A:fi:OWNER@:d')
+
+
+def sent(user, *words):
+    """Also where much else runs."""
+    user.says(*words, css='.uploads .good', patience=4 * PATIENCE)
 
 
 class Large:
@@ -54,7 +60,16 @@ class Large:
 
     def puts(self):
         with open(self.log, encoding='utf-8') as log:
-            return [line for line in log if ' PUT /door/doc/' in line]
+            return [line for line in log if ' PUT /door/' in line]
+
+    def pieces(self):
+        """Those that have come, of all uploads."""
+        return [line.split()[2] for line in self.puts() if line.startswith('204 PUT /door/pieces/')]
+
+    def assert_each_once(self, pieces, lost=0):
+        """But for so many whose answers were lost."""
+        count = -(-len(self.first) // PIECE)
+        assert len(set(pieces)) == count and len(pieces) <= count + lost, pieces
 
     def make(self):
         if b'"letters"' not in self.ask('GET', '/folder/'):
@@ -65,7 +80,7 @@ class Large:
         alice = self.alice
         alice.open('#/letters')
         self.send(alice, 'scan.bin', self.first)
-        alice.says('uploaded', css='.uploads .good')
+        sent(alice, 'uploaded')
         alice.lists('scan.bin')
         assert self.ask('GET', '/door/doc/letters/scan.bin') == self.first
         assert len(self.names()) > 5, self.names()
@@ -96,7 +111,7 @@ class Large:
         bob.open('#/letters')
         self.send(bob, 'scan.bin', self.second)
         bob.press('Replace it', 'dialog')
-        bob.says('uploaded', css='.uploads .good')
+        sent(bob, 'uploaded')
         assert self.ask('GET', '/door/doc/letters/scan.bin') == self.second
         owners = {self.ask('GET', f'/attr/letters/{name}') for name in self.names()}
         assert owners == {b'{"group":"staff","kind":"document","owner":"alice"}'}, owners
@@ -119,11 +134,11 @@ class Large:
                                  4 * PATIENCE)
         assert len(asked) == 1, asked
         [winner] = set(both) - set(asked)
-        both[winner].says('uploaded', css='.uploads .good', patience=4 * PATIENCE)
+        sent(both[winner], 'uploaded')
         assert self.ask('GET', '/door/doc/letters/scan.bin') == data[winner]
         loser = both[asked[0]]
         loser.press('Keep both', 'dialog')
-        loser.says('uploaded as scan (2).bin', css='.uploads .good', patience=4 * PATIENCE)
+        sent(loser, 'uploaded as scan (2).bin')
         assert self.ask('GET', '/door/doc/letters/scan%20(2).bin') == data[asked[0]]
         self.ask('DELETE', '/door/object/letters/scan%20(2).bin')
         self.ask('PUT', '/door/doc/letters/scan.bin', self.second, If_Match='*')
@@ -162,7 +177,7 @@ class Large:
         assert len([name for name in self.names() if name.startswith('broken')]) == 2
         self.send(bob, 'broken.bin', self.first)
         bob.press('Remove them, and upload it', 'dialog')
-        bob.says('broken.bin', 'uploaded', css='.uploads .good')
+        sent(bob, 'broken.bin', 'uploaded')
         assert self.ask('GET', '/door/doc/letters/broken.bin') == self.first
         self.ask('DELETE', '/door/object/letters/broken.bin', user='bob')
 
@@ -194,7 +209,7 @@ class Large:
         bob.one('input[type=file]').send_keys('\n'.join([
             self.file('plan.bin', self.first), self.file('note.bin', b'note')]))
         bob.says('place for 2,097,152 bytes (2 MiB)', css='.uploads .bad')
-        bob.says('note.bin', 'uploaded', css='.uploads .good')
+        sent(bob, 'note.bin', 'uploaded')
         assert len(self.puts()) == len(before) + 1
         os.unlink(f'{folder}/office.left')
         self.ask('DELETE', '/object/letters/note.bin', user='bob')
@@ -213,19 +228,48 @@ class Large:
         self.ask('DELETE', '/object/letters/small.bin')
 
     def stopped(self):
-        """In the middle: nothing of it stays."""
-        bob = self.alice
-        bob.open('#/letters')
+        """In the middle: nothing of it is there, and another try goes on."""
+        alice = self.alice
+        alice.open('#/letters')
+        before = len(self.pieces())
         # The browser holds what it would send.
-        bob.driver.execute_cdp_cmd('Fetch.enable', {'patterns': [
-            {'urlPattern': '*/door/doc/*', 'requestStage': 'Request', 'resourceType': 'XHR'}]})
-        self.send(bob, 'slow.bin', self.first)
-        bob.says('sent', css='.uploads .state')
-        time.sleep(1)
-        bob.press('Stop', '.uploads')
-        bob.says('not sent', css='.uploads .bad')
-        bob.driver.execute_cdp_cmd('Fetch.disable', {})
+        alice.driver.execute_cdp_cmd('Fetch.enable', {'patterns': [
+            {'urlPattern': '*/door/pieces/*/3', 'requestStage': 'Request', 'resourceType': 'XHR'}]})
+        self.send(alice, 'slow.bin', self.first)
+        alice.until(lambda: len(self.pieces()) == before + 2, 'two pieces')
+        alice.press('Stop', '.uploads')
+        alice.says('not sent', css='.uploads .bad')
+        alice.driver.execute_cdp_cmd('Fetch.disable', {})
         assert not [name for name in self.names() if name.startswith('slow')]
+        alice.press('Try the failed ones again', '.uploads')
+        sent(alice, 'uploaded')
+        self.assert_each_once(self.pieces()[before:])
+        assert self.ask('GET', '/door/doc/letters/slow.bin') == self.first
+        self.ask('DELETE', '/door/object/letters/slow.bin')
+
+    def lost_line(self):
+        """It goes on where it was."""
+        alice = self.alice
+
+        def line(**given):
+            alice.driver.execute_cdp_cmd('Network.emulateNetworkConditions', {
+                'offline': False, 'latency': 0, 'downloadThroughput': -1, 'uploadThroughput': -1,
+                **given})
+        alice.open('#/letters')
+        before = len(self.pieces())
+        alice.driver.execute_cdp_cmd('Network.enable', {})
+        line(uploadThroughput=len(self.first) // 5)
+        self.send(alice, 'lost.bin', self.first)
+        alice.until(lambda: len(self.pieces()) >= before + 2, 'two pieces')
+        line(offline=True)
+        time.sleep(2)
+        had = len(self.pieces()) - before
+        line()
+        sent(alice, 'lost.bin', 'uploaded')
+        assert had < -(-len(self.first) // PIECE), 'all had come before'
+        self.assert_each_once(self.pieces()[before:], 1)
+        assert self.ask('GET', '/door/doc/letters/lost.bin') == self.first
+        self.ask('DELETE', '/door/object/letters/lost.bin')
 
     def shared(self):
         """All of it has the list."""
@@ -245,7 +289,7 @@ class Large:
         alice.open('#/letters')
         alice.act('Rename or move', 'scan.bin')
         alice.write('dialog input', 'plan.bin')
-        alice.press('Move it', 'dialog')
+        alice.press('Rename it', 'dialog')
         alice.lists('plan.bin')
         assert self.ask('GET', '/door/doc/letters/plan.bin') == self.second
 
@@ -267,7 +311,8 @@ PLAY = [
     ('a long text is shown in part', Large.previewed),
     ('what the room has no place for isn’t sent', Large.no_place),
     ('nor what has no parts', Large.refused_before),
-    ('an upload is stopped', Large.stopped),
+    ('an upload is stopped, and goes on', Large.stopped),
+    ('and after a lost line', Large.lost_line),
     ('it has one list', Large.shared),
     ('it is renamed', Large.renamed),
     ('and removed', Large.removed),

@@ -63,6 +63,7 @@ class Leaving:
         alice.until(lambda: len(alice.names()) == done, 'the rows that were sent')
         said = alice.script("return document.querySelector('.uploads [role=status]').textContent")
         assert said == f'Stopped: {done} of 12 documents uploaded.', said
+        assert said in alice.texts('.uploads')[0], alice.texts('.uploads')
         alice.script('window.pause = 0')
         alice.press('Try the failed ones again', '.uploads')
         alice.until(lambda: len(alice.names()) == 12, 'all of them')
@@ -169,7 +170,7 @@ class Leaving:
         carol.open('#/many')
         carol.act('Rename or move', 'part 5.txt')
         carol.write('dialog input', 'renamed.txt')
-        carol.press('Move it', 'dialog')
+        carol.press('Rename it', 'dialog')
         carol.says('You may not rename “/many/part 5.txt”.', 'Ask Alice Moreau')
 
     def by_this_list(self):

@@ -6,7 +6,7 @@ if ! has node ||
   skip 'the levels of the page' 'missing: node (18 or newer)'
   return
 fi
-"$repo/deploy/bundle.py" "$PWD/page"
+"$repo/tools/bundle.py" "$PWD/page"
 # So that node takes them as modules, as a browser does.
 echo '{"type":"module"}' >page/package.json
 
@@ -57,8 +57,8 @@ print(len(known) > 200, [hex(one) for one in codes if signs.is_seen(chr(one))],
 else
   skip 'accesses that end' 'missing: /usr/bin/python3'
 fi
-node_says 'what is said before a list is sent' '76 tried, 0 faults' "$here/web/warning.mjs" page
-node_says 'and with the program' '76 tried, 0 faults' "$here/web/warning.mjs" page "$rooms"
+node_says 'what is said before a list is sent' '89 tried, 0 faults' "$here/web/warning.mjs" page
+node_says 'and with the program' '89 tried, 0 faults' "$here/web/warning.mjs" page "$rooms"
 node_says 'for whom a change is asked about' '50 tried, 0 faults' "$here/web/callers.mjs" page
 node_says 'what is asked and answered about a change' '2000 tried, 0 faults' \
   "$here/web/asking.mjs" page 2000
@@ -78,6 +78,8 @@ node_says 'what was seen further down, after changes' '300 tried, 0 faults' \
   "$here/web/crawling.mjs" page 300
 node_says 'what may not be read, and a room that is away' '42 tried, 0 faults' \
   "$here/web/away.mjs" page
+node_says 'large documents over a line that fails' '73 tried, 0 faults' \
+  "$here/web/in_pieces.mjs" page
 same_folded() {
   python3 -IB "$here/web/searched.py" page "$repo/services" >"$work/out" 2>"$work/err"
   grep -qx '[0-9]* folded, 0 differ' "$work/out"

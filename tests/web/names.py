@@ -66,6 +66,25 @@ class Known:
             alice.texts('[role=option] .hint') == ['add as a person all the same'], \
             alice.texts('[role=option]')
 
+    def left_in_field(self):
+        """A name that was typed and not chosen is told, or taken where it fits one alone."""
+        alice = self.alice
+        self.panel('/letters/2026')
+        before = self.list_of('/letters/2026')
+        self.pick('kim', 'person')
+        press = "document.querySelector('.adding .primary').click()"
+        alice.write('.picker input', 'a')
+        alice.script(press)
+        alice.says('“a” stands in the field and isn’t chosen', css='.adding .said')
+        alice.write('.picker input', 'lind')
+        alice.script(press)
+        alice.says('Bob Lindqvist stood in the field, and is added now.')
+        assert alice.texts('.chosen-ones .name') == ['kim', 'Bob Lindqvist'], \
+            alice.texts('.chosen-ones')
+        assert self.list_of('/letters/2026') == before
+        alice.until(lambda: alice.all('.adding .outcome[aria-busy=false]'), 'what comes of both')
+        alice.press('Cancel', '.adding')
+
     def wrong_names(self):
         """They decide nothing: a file that is wrong makes a wrong sentence, and never a right."""
         alice = self.alice

@@ -109,12 +109,15 @@ holds 'who it is' grep -qix 'Room-User: carol.' "$work/head"
 holds 'and that it has to be changed' grep -qix 'Room-First: carol.' "$work/head"
 answer "alice:$now" /me
 holds 'nobody else has to' eval '! grep -qi Room-First "$work/head"'
-for target in /folder/ /doc/x '/can/?r' /dacl/ /attr/; do
+for target in /folder/ /doc/x '/can/?r' /dacl/ /attr/ /door/folder/ /door/zip/ /door/doc/x; do
   ask "no $target" 403 '{"why":"first"}' 'carol:given to carol' "$target"
   ask 'also not by a field' 403 '{"why":"first"}' 'carol:given to carol' "$target" \
     -H 'Room-User: alice'
 done
 ask 'nor a change' 403 '{"why":"first"}' 'carol:given to carol' /doc/x -X PUT --data-binary x
+head -c 1500000 /dev/zero >large
+ask 'nor a large document' 403 '{"why":"first"}' 'carol:given to carol' /door/doc/x -T large \
+  -H 'If-None-Match: *'
 install -d "$PWD/root/var/lib/rooms-web/office/mine"
 echo '{}' | tee root/var/lib/rooms-web/office/people.json \
   root/var/lib/rooms-web/office/mine/{carol,\*}.json >/dev/null

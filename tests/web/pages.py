@@ -131,8 +131,8 @@ class Pages:
         assert not alice.is_wider()
 
     def telephone(self):
-        for wide in (320, 390):
-            self.alice.resize(wide, 800)
+        for wide, high in ((320, 800), (390, 844), (390, 664)):
+            self.alice.resize(wide, high)
             self.opened(self.alice, 'letter')
             self.alice.until(lambda: self.alts(self.alice), 'the first page')
             assert not self.alice.is_wider()
@@ -140,10 +140,12 @@ class Pages:
                 const { left, right, width } =
                   document.querySelector('.pages img').getBoundingClientRect();
                 const buttons = [...document.querySelectorAll('dialog .actions button')];
+                const dialog = document.querySelector('dialog').getBoundingClientRect();
                 return [left >= 0, right <= innerWidth, width > 0.8 * innerWidth,
-                  buttons.every((one) => one.getBoundingClientRect().right <= innerWidth
-                    && one.getBoundingClientRect().bottom <= innerHeight)]""")
-            assert shown == [True] * 4, (wide, shown)
+                  buttons.every((one) => one.getBoundingClientRect().right <= dialog.right
+                    && one.getBoundingClientRect().bottom <= dialog.bottom),
+                  dialog.bottom <= innerHeight]""")
+            assert shown == [True] * 5, (wide, high, shown)
             self.alice.type(Keys.ESCAPE)
         self.alice.resize(1200, 900)
 

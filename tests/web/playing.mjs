@@ -50,12 +50,17 @@ export class Play {
   // What was asked of the program until now.
   asked() { return this.served.questions.splice(0); }
 
-  // The panel of an object, once it is drawn.
+  // The panel of an object, once it is drawn. It isn't drawn anew: 'isOld' says that it would be.
   async panel(path, kind) {
     const { showAccess } = await this.module('share.js');
     const box = document.createElement('div');
     body.append(box);
-    await showAccess(path, kind, box, () => true);
+    let draws = 0;
+    await showAccess(path, kind, box, () => {
+      draws += 1;
+      box.isOld = draws > 1;
+      return !box.isOld;
+    });
     return box;
   }
 
@@ -67,10 +72,19 @@ export class Play {
     const press = () => shown.querySelectorAll('.actions button').at(-1);
     await until(() => shown.querySelector('.outcome') && !shown.querySelector('[aria-busy=true]')
       && !press().disabled, 'answer');
-    const said = { ...shownIn(shown, path, kind), questions: this.asked() };
+    const said = { ...shownIn(shown, path, kind), questions: this.asked(),
+      isTakenBack: this.takesBack(shown) };
     if (press().className === 'danger' && shown.querySelector('.lock-out')) return null;
     press().click();
     return said;
+  }
+
+  // Whether what is kept further down is taken back too: as often as not.
+  takesBack(shown) {
+    const box = shown.querySelectorAll('.way').find(({ textContent }) =>
+      textContent.includes('what is kept there'))?.querySelector('input');
+    if (box?.checked && this.chance.is(50)) box.click();
+    return box?.checked === true;
   }
 
   // Until what was sent is done. What wasn't is told, and isn't judged.
@@ -110,13 +124,12 @@ export class Play {
     if (picked === 0) return null;
     const menu = adding.querySelector('.picked select');
     change(menu, this.chance.pick(menu.options).value);
-    const drawn = box.children[0];
     // What can't be said by levels stays so.
     await until(() => adding.querySelector('.outcome[aria-busy=false]')
       || adding.textContent.includes('can’t be said'), 'what comes of it');
     if (!adding.querySelector('.outcome')) return null;
     const said = await this.confirmed(path, kind, adding);
-    if (said) await until(() => box.children[0] !== drawn, 'the panel anew');
+    if (said) await until(() => box.isOld, 'the panel anew');
     return said && this.done(said);
   }
 }
@@ -124,6 +137,7 @@ export class Play {
 // ---- the dialogs
 
 const isFolder = ({ kind }) => kind === 'folder';
+const folders = (tree) => tree.filter(isFolder);
 // Objects in the order in which they are tried, and what the first of them gives.
 export async function firstOf(play, tree, does) {
   for (const one of play.chance.mixed(tree).slice(0, 8)) {
@@ -137,8 +151,12 @@ export async function firstOf(play, tree, does) {
 const sharing = (count) => (play, tree) => firstOf(play, tree, ({ path, kind }) =>
   play.shared(path, kind, count(play)));
 
+// What follows its folder has no lines of its own.
+const withLists = (tree) => tree.filter(({ list }) => list !== null);
+
 // What is chosen in the menu of a line.
-const ofLine = (isGone) => (play, tree) => firstOf(play, tree, async ({ path, kind }) => {
+const ofLine = (isGone) => (play, tree) => firstOf(play, withLists(tree), async (one) => {
+  const { path, kind } = one;
   const box = await play.panel(path, kind);
   const menus = box.querySelectorAll('.holders select').flatMap((menu) => menu.options
     .filter(({ value }) => value !== menu.value && (value === 'gone') === isGone)
@@ -150,7 +168,8 @@ const ofLine = (isGone) => (play, tree) => firstOf(play, tree, async ({ path, ki
 });
 
 // The box 'Only these people', turned on or off.
-const following = (isCut) => (play, tree) => firstOf(play, tree, async ({ path, kind }) => {
+const following = (isCut) => (play, tree) => firstOf(play, tree.filter(({ list }) =>
+  /^list:a?p/.test(list) !== isCut), async ({ path, kind }) => {
   const box = (await play.panel(path, kind)).querySelector('.following input');
   if (!box || box.disabled || box.checked === isCut) return null;
   box.click();
@@ -187,12 +206,12 @@ async function moved(play, tree, nameOf) {
   });
 }
 
-// What one person can do in a folder and below it, once it is said.
-async function ofPerson(play, { path, kind }) {
-  if (kind !== 'folder') return null;
+// What one of these persons can do in a folder and below it, once it is said.
+async function ofPerson(play, { path, kind }, persons) {
+  if (persons.length === 0) return null;
   const box = (await play.panel(path, kind)).querySelector('.one-person');
   if (!box) return null;
-  const who = play.chance.pick(USERS.slice(1));
+  const who = play.chance.pick(persons);
   play.pickIn(box, who);
   await until(() => box.querySelector('.exceptions p'), 'what they can do');
   return { box, who };
@@ -201,8 +220,8 @@ async function ofPerson(play, { path, kind }) {
 // A line of it: a place, what they can do there, and if in which groups.
 const LOOK = /^(\/[^ ]*?)((?:can|no|custom|what).*?)(?: \(if in (.*)\))?$/;
 
-const looked = (play, tree) => firstOf(play, tree, async (one) => {
-  const found = await ofPerson(play, one);
+const looked = (play, tree) => firstOf(play, folders(tree), async (one) => {
+  const found = await ofPerson(play, one, USERS.slice(1));
   if (found === null) return null;
   const lines = found.box.querySelectorAll('.exceptions li').map((li) => plain(li.textContent));
   return { ...one, questions: play.asked(), text: plain(found.box.innerText), lines: [],
@@ -212,8 +231,13 @@ const looked = (play, tree) => firstOf(play, tree, async (one) => {
     }) } };
 });
 
-const pressed = (words, does) => (play, tree) => firstOf(play, tree, async (one) => {
-  const found = await ofPerson(play, one);
+// Those to whom lists of a folder and below it give something, as often as they do.
+const namedIn = (tree, folder) => tree
+  .filter(({ path }) => `${path}/`.startsWith(`${folder.path}/`))
+  .flatMap(({ list }) => USERS.slice(1).filter((who) => list?.includes(`:${who}:`)));
+
+const pressed = (words, does) => (play, tree) => firstOf(play, folders(tree), async (one) => {
+  const found = await ofPerson(play, one, namedIn(tree, one));
   const press = found?.box.querySelectorAll('.actions button')
     .find((each) => each.textContent === words);
   if (!press) return null;

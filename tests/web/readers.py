@@ -86,7 +86,7 @@ class Readers:
         bob = self.bob
         bob.act('Rename or move', 'Report 2.txt')
         bob.write('dialog input', 'Report 3.txt')
-        bob.press('Move it', 'dialog')
+        bob.press('Rename it', 'dialog')
         bob.until(lambda: bob.all('.notice summary'), 'a denial')
         bob.click(bob.one('.notice summary'))
         bob.says('Entry 1 of its access list denies it', 'denies the user bob', 'D:I:bob:waDd',

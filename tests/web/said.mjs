@@ -6,7 +6,7 @@
 // the object, and of a document that somebody else has in that folder.
 
 // The names of a sentence. Of who may be in groups the words stay together.
-const GROUP = '(?:staff|sales|board)';
+const GROUP = '(?:staff|sales|board|office)';
 const SETS = new RegExp(
   `whoever is in ${GROUP}(?:(?:, | and )${GROUP})*|[^, ]+ \\(if in [^)]*\\)`, 'gi');
 export function namesIn(text) {
@@ -69,15 +69,18 @@ const VERBS = { read: 'can read', change: 'can change', 'add to and change': 'ca
 function sentencesOf({ path, text }) {
   const said = /^(.*) can then (.*?) “/m.exec(text);
   const goes = /^At “.*” (.*) goes from “.*” to “(.*)”/m.exec(text);
+  // Whoever can't get here has it once they do, which is said beside.
+  const isStopped = (name) => new RegExp(`\\b${name}\\b[^.]* can’t get here`).test(text);
   const claim = (names, level) => ({ isGain: true, isSentence: true, at: path, text: level,
     names: names.replace(/\([^)]*\)/g, '').split(/, | and /)
-      .filter((name) => /^\w+$/.test(name) && name !== 'Everyone'),
+      .filter((name) => /^\w+$/.test(name) && name !== 'Everyone' && !isStopped(name)),
     ...meaningOf(level) });
   return [...said ? [claim(said[1], VERBS[said[2]])] : [],
     ...goes ? [claim(goes[1], goes[2].toLowerCase())] : []];
 }
 
-const WORDS = new RegExp('^(?:.*?) – (.*?)(?:, (?:at|with (?:documents|folders) in) (/.*?))?'
+const WORDS = new RegExp('^(?:.*?) – (.*?)'
+  + '(?:, (?:at|with (?:some )?(?:documents|folders) in) (/.*?))?'
   + '(?:, by lines there)?$');
 const HEAD = /^(Perhaps )?(gains|loses|keeps): /i;
 
@@ -91,7 +94,8 @@ export function claimsOf(shown) {
     const word = head[2].toLowerCase();
     return [{ isGain: word === 'gains', isKept: word === 'keeps', isPerhaps: Boolean(head[1]),
       names, at: match[2] ?? path, text: match[1], ...meaningOf(match[1]),
-      isInside: /, with (documents|folders) in \//.exec(text)?.[1] ?? null }];
+      isInside: /, with (?:some )?(documents|folders) in \//.exec(text)?.[1] ?? null,
+      isSome: /, with some \w+ in \//.test(text) }];
   })];
 }
 
@@ -101,29 +105,42 @@ export const asked = ({ rights, removes }) => (
   { letters: [...ASKED].filter((letter) => rights.includes(letter)).join(''), removes });
 const OWNERS = 'Whoever made a document here may then also remove and rename it.';
 
+// Whether it is said of a caller's own objects, also if they are in these groups.
+const isOwnSaid = (text, { name, groups }, words) => text.includes(`${name} ${words}`)
+  || [...text.matchAll(new RegExp(`\\b${name} \\(if in ([^)]*)\\) ${words}`, 'g'))]
+    .some(([, those]) => those.split(/, | and /).every((one) => groups.includes(one)));
+
+const TAKEN = /Also take back that (.*?) may pass through ([^.]*)\./;
+// Whether it is offered, and ticked, that one no longer passes through a place.
+function isTakenBack({ text, covers }, caller, path, lost) {
+  const [, names = '', places = ''] = TAKEN.exec(text) ?? [];
+  return lost.every((letter) => 'xt'.includes(letter))
+    && namesIn(names).some((name) => covers(name, caller))
+    && places.includes(`“${path.slice(path.lastIndexOf('/') + 1)}”`);
+}
+
 // What wasn't said of what one gains or loses at an object {path, kind, owner}, or null.
-export function unsaidAt({ text, claims, covers }, caller, one, had, has) {
+export function unsaidAt(said, caller, one, had, has) {
+  const { text, claims, covers } = said;
   const about = claims.filter(({ names, at }) => isIn(one.path, at)
     && names.some((name) => covers(name, caller)));
   const isTheirs = one.owner !== null && one.owner === caller.user;
-  const folder = one.path.slice(0, one.path.lastIndexOf('/'));
-  if (isTheirs && new RegExp(`${caller.name} also gains or loses .*“${folder}”`).test(text)) {
-    return null;
-  }
   const lost = minus(had.letters, has.letters)
     .filter((letter) => letter !== 'D' || one.kind !== 'document');
-  const isOwnLost = isTheirs && text.includes(`${caller.name} can then no longer remove`);
+  const isOwnLost = isTheirs && isOwnSaid(text, caller, 'can then no longer remove');
   if (lost.length > 0 || (had.removes && !has.removes && !isOwnLost)) {
-    if (!about.some((claim) => !claim.isGain && !claim.isKept)) {
+    if (!about.some((claim) => !claim.isGain && !claim.isKept)
+      && !isTakenBack(said, caller, one.path, lost)) {
       return `lost ${lost.join('')}${had.removes && !has.removes ? ' and removing' : ''}, unsaid`;
     }
   }
   // Whoever can't pass removes nothing.
   const gains = minus(has.letters, had.letters)
-    .filter((letter) => letter !== 'D' || has.letters.includes('x'));
-  const isOwnSaid = isTheirs && one.kind === 'document' && (text.includes(OWNERS)
-    || text.includes(`${caller.name} then gets at`));
-  const removing = has.removes && !had.removes && !isOwnSaid;
+    .filter((letter) => letter !== 'D'
+      || (has.letters.includes('x') && one.kind !== 'document'));
+  const isOwnGot = isTheirs && one.kind === 'document'
+    && (text.includes(OWNERS) || isOwnSaid(text, caller, 'then gets at'));
+  const removing = has.removes && !had.removes && !isOwnGot;
   const name = one.path.slice(one.path.lastIndexOf('/') + 1);
   const isOpened = new RegExp(`pass through [^.]*“${name}”`).test(text);
   // That somebody passes is said beside.
@@ -133,7 +150,7 @@ export function unsaidAt({ text, claims, covers }, caller, one, had, has) {
   const got = `got ${gains.join('')}${removing ? ' and removing' : ''}`;
   const those = nearestIn(about.filter(({ isKept }) => !isKept), (name) => covers(name, caller));
   if (those.length === 0) return `${got}, unsaid`;
-  return those.every((claim) => beyond(claim, { one, gains, removing, isTheirs }))
+  return beyond(those, { one, gains, removing, isTheirs })
     ? `${got}, beyond “${those.map((claim) => claim.text).join('”, “')}”` : null;
 }
 
@@ -146,9 +163,15 @@ function nearestIn(claims, isMeant) {
   return [...found.values()];
 }
 
-// On a document D says nothing.
-function beyond({ level, removes, at, isVague, isInside }, { one, gains, removing, isTheirs }) {
-  if (isVague || VAGUE.includes(level)) return false;
+// Whether several that mean one say less together. On a document D says nothing.
+const beyond = (claims, { gains, removing, ...rest }) => {
+  const left = claims.map((claim) => lessThan(claim, { gains, removing, ...rest }));
+  return gains.some((letter) => left.every(({ more }) => more.includes(letter)))
+    || (removing && left.every(({ isMore }) => isMore));
+};
+
+function lessThan({ level, removes, at, isVague, isInside }, { one, gains, removing, isTheirs }) {
+  if (isVague || VAGUE.includes(level)) return { more: [], isMore: false };
   const most = level === null ? '' : MOST[level] ?? ASKED;
   const more = gains.filter((letter) => !most.includes(letter)
     && !(letter === 'D' && (/inside|folder|document/.test(removes) || one.kind === 'document'
@@ -156,7 +179,7 @@ function beyond({ level, removes, at, isVague, isInside }, { one, gains, removin
   const isRemovingSaid = REMOVING.includes(level) || removes.includes(one.kind)
     || (isTheirs && (level === 'can add and change' || removes.includes('own')))
     || removes.includes(at === one.path || isInside ? 'it' : 'inside');
-  return more.length > 0 || (removing && !isRemovingSaid);
+  return { more, isMore: removing && !isRemovingSaid };
 }
 
 // What was said of one who is meant and isn't so, or null. 'kindOf' says what stands at a path.
@@ -194,6 +217,8 @@ export function unkept({ path: top, claims, covers, placesBelow }, caller, befor
   return place ? `keeps ${letters(after, place)} at ${place}, unsaid` : null;
 }
 
+const THEIRS = 'what is theirs there: ';
+
 // What is said of one person, {who, lines: [{path, words, groups}]}, against what they may do: of a
 // line that isn't so, or of more than is said. 'reads' are the objects that were to be looked at.
 export function looksWrong({ who, lines }, callers, objects, state) {
@@ -201,23 +226,26 @@ export function looksWrong({ who, lines }, callers, objects, state) {
   for (const caller of callers.filter(({ user }) => user === who)) {
     const those = lines.filter(({ groups }) => groups.every((one) =>
       caller.groups.includes(one))).map((one) => ({ ...one, ...meaningOf(one.words) }));
-    const exact = those.filter(({ groups, words }) => groups.length === caller.groups.length
-      && !words.startsWith('what is theirs'));
-    for (const claim of exact) {
-      const fault = wrongOf({ ...claim, at: claim.path, text: claim.words, isKept: true }, caller,
-        (path) => objects.find((one) => one.path === path)?.kind, state, state);
-      if (fault) told.push(`${who} ${caller.groups}: ${fault}`);
+    const kindOf = (path) => objects.find((one) => one.path === path)?.kind;
+    for (const { path, words, ...claim } of those) {
+      if (claim.groups.length !== caller.groups.length) continue;
+      const places = words.startsWith(THEIRS) ? objects.filter((one) => one.owner === who
+        && one.list === null && one.path.startsWith(`${path}/`)).map((one) => one.path) : [path];
+      const found = places.map((at) => wrongOf({ ...claim, ...meaningOf(words.replace(THEIRS, '')),
+        at, text: words, isKept: true }, caller, kindOf, state, state));
+      // Of what is theirs it has to be so of one.
+      if (found.every(Boolean)) told.push(`${who} ${caller.groups}: ${found[0] ?? words}`);
     }
     for (const one of objects) {
       const has = state.at(one.path, caller);
       const isTheirs = one.owner === who;
       const near = those.filter(({ path, words }) => isIn(one.path, path)
-        && (isTheirs || !words.startsWith('what is theirs')));
+        && (isTheirs || !words.startsWith(THEIRS)));
       const gains = [...has.letters].filter((letter) => letter !== 'D'
         || has.letters.includes('x'));
-      const isSaid = near.some((claim) => !beyond({ ...claim, at: claim.path },
+      const isSaid = near.some((claim) => !beyond([{ ...claim, at: claim.path }],
         { one, gains, removing: has.removes, isTheirs }));
-      const isTheirsSaid = isTheirs && near.some(({ words }) => words.startsWith('what is theirs'));
+      const isTheirsSaid = isTheirs && near.some(({ words }) => words.startsWith(THEIRS));
       if ((gains.length > 0 || has.removes) && !isSaid && !isTheirsSaid) {
         told.push(`${who} ${caller.groups} has ${has.letters} at ${one.path}${
           has.removes ? ', and removes it' : ''}, unsaid`);

@@ -28,9 +28,11 @@ const lettersOf = ({ letters, removes }) => [...Object.keys(HAS).filter((one) =>
 const isIn = (path, folder) => path === folder || path.startsWith(`${folder}/`);
 const minus = (one, other) => one.filter((each) => !other.includes(each));
 
-// 'paths' are the objects that were moved, as [from, to], 'root' is the folder that they were in,
-// and 'covers(who, caller)' says whether a sentence's names mean a caller.
-export function judgeMove(claims, { paths, root, callers, covers, before, after }) {
+// 'paths' are the objects that were moved, as [from, to], and 'isKnown' says by 'to' whether it can
+// be said what comes of it; 'root' is the folder that they were in. 'covers(who, caller)' says
+// whether a sentence's names mean a caller, and 'isJudged' of which names it can be said at all.
+export function judgeMove(claims, { paths, root, isKnown, isJudged, callers, covers, before,
+  after }) {
   const found = { unsaid: [], wrong: [] };
   const told = new Set();
   for (const caller of callers) {
@@ -43,7 +45,7 @@ export function judgeMove(claims, { paths, root, callers, covers, before, after 
             && one.places.some((place) => place === null || isIn(from, `${root}/${place}`)));
           those.forEach((one) => told.add(`${claims.indexOf(one)} ${caller.key}`));
           // Whoever may clear a folder may remove what is in it.
-          if (those.length === 0) {
+          if (those.length === 0 && isKnown(to)) {
             found.unsaid.push(`${caller.name} ${caller.groups} ${isGain ? 'gains' : 'loses'} ${
               letter} at ${to}`);
           }
@@ -52,7 +54,7 @@ export function judgeMove(claims, { paths, root, callers, covers, before, after 
     }
   }
   claims.forEach((claim, at) => {
-    if (!callers.some((caller) => told.has(`${at} ${caller.key}`))) {
+    if (isJudged(claim.names) && !callers.some((caller) => told.has(`${at} ${caller.key}`))) {
       found.wrong.push(`isn’t so: ${claim.text}`);
     }
   });

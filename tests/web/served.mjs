@@ -8,25 +8,45 @@ import { connect } from 'node:net';
 // A server ends a connection after so many.
 const MESSAGES = 90;
 
+const messageOf = ({ user, method, target, body, headers = {} }, isLast) => {
+  const fields = { 'Room-User': user, ...headers, 'Content-Length': Buffer.byteLength(body),
+    ...isLast ? { Connection: 'close' } : {} };
+  const head = Object.entries(fields).map(([name, value]) => `${name}: ${value}\r\n`).join('');
+  return [Buffer.from(`${method} ${target} HTTP/1.1\r\n${head}\r\n`), Buffer.from(body)];
+};
+
+// What the room answered over one connection: {status, headers, body} of each.
+function repliesIn(bytes) {
+  const found = [];
+  for (let at = 0; at < bytes.length;) {
+    const end = bytes.indexOf('\r\n\r\n', at);
+    const [first, ...fields] = bytes.toString('latin1', at, end).split('\r\n');
+    const headers = Object.fromEntries(fields.map((field) => field.split(': ')));
+    at = end + 4 + Number(headers['Content-Length'] ?? 0);
+    found.push({ status: Number(first.split(' ')[1]), headers, body: bytes.subarray(end + 4, at) });
+  }
+  return found;
+}
+
 export class Served {
   // 'folder' has the room F, its socket run/rooms/office/socket, and that of the door.
   constructor(program, folder) {
-    Object.assign(this, { program, folder, night: new Map(), questions: [],
-      agent: new Agent({ keepAlive: false, maxSockets: 4 }) });
-  }
-
-  socketOf(target) {
-    const at = target.startsWith('/door/') ? 'door' : 'rooms';
-    return `${this.folder}/run/${at}/office/socket`;
+    Object.assign(this, { program, folder, night: new Map(), questions: [], waiting: [],
+      agent: new Agent({ keepAlive: true, maxSockets: 4 }) });
   }
 
   // {status, headers, body}.
   ask(user, method, target, body = '', headers = {}) {
+    const one = { user, method, target, body, headers };
+    return target.startsWith('/door/') ? this.askDoor(one) : this.askRoom(one);
+  }
+
+  askDoor({ user, method, target, body, headers }) {
     const bytes = Buffer.from(body);
     return new Promise((done, fail) => {
-      const asking = request({ socketPath: this.socketOf(target), agent: this.agent, method,
-        path: target, headers: { ...headers, 'Room-User': user, 'Content-Length': bytes.length } },
-      (reply) => {
+      const asking = request({ socketPath: `${this.folder}/run/door/office/socket`, method,
+        path: target, agent: this.agent,
+        headers: { ...headers, 'Room-User': user, 'Content-Length': bytes.length } }, (reply) => {
         const parts = [];
         reply.on('data', (part) => parts.push(part));
         reply.on('end', () => done({ status: reply.statusCode, headers: reply.headers,
@@ -37,28 +57,50 @@ export class Served {
     });
   }
 
+  // The room answers one connection after the other, so what is asked at one moment shares one.
+  askRoom(one) {
+    return new Promise((done, fail) => {
+      this.waiting.push({ one, done, fail });
+      if (this.waiting.length === 1) setImmediate(() => this.askWaiting());
+    });
+  }
+
+  askWaiting() {
+    const all = this.waiting.splice(0);
+    for (let at = 0; at < all.length; at += MESSAGES) {
+      const some = all.slice(at, at + MESSAGES);
+      this.sendOver(some.map(({ one }) => one)).then(
+        (replies) => some.forEach(({ done }, which) => done(replies[which])),
+        (fault) => some.forEach(({ fail }) => fail(fault)));
+    }
+  }
+
+  // The room's answers over one connection.
+  sendOver(messages) {
+    const socket = connect(`${this.folder}/run/rooms/office/socket`);
+    return new Promise((done, fail) => {
+      const got = [];
+      socket.on('data', (part) => got.push(part));
+      socket.on('error', fail);
+      socket.on('end', () => {
+        const replies = repliesIn(Buffer.concat(got));
+        if (replies.length === messages.length) done(replies);
+        else fail(new Error(`${replies.length} of ${messages.length} answers`));
+      });
+      socket.end(Buffer.concat(messages.flatMap((one, at) =>
+        messageOf(one, at === messages.length - 1))));
+    });
+  }
+
   // Many requests of one user: [[method, target, body]]. Returns how many of them weren't done.
   async send(user, messages) {
     let left = 0;
     for (let at = 0; at < messages.length; at += MESSAGES) {
-      left += await this.sendOver(user, messages.slice(at, at + MESSAGES));
+      const replies = await this.sendOver(messages.slice(at, at + MESSAGES)
+        .map(([method, target, body = '']) => ({ user, method, target, body })));
+      left += replies.filter(({ status }) => status >= 300).length;
     }
     return left;
-  }
-
-  // Over one connection.
-  sendOver(user, messages) {
-    const socket = connect(this.socketOf(''));
-    const text = ([method, target, body = ''], at) => `${method} ${target} HTTP/1.1\r\nRoom-User: ${
-      user}\r\nContent-Length: ${Buffer.byteLength(body)}\r\n${
-      at === messages.length - 1 ? 'Connection: close\r\n' : ''}\r\n${body}`;
-    return new Promise((done, fail) => {
-      let got = '';
-      socket.on('data', (part) => { got += part; });
-      socket.on('error', fail);
-      socket.on('end', () => done(messages.length - got.split('HTTP/1.1 2').length + 1));
-      socket.end(messages.map(text).join(''));
-    });
   }
 
   // The page's fetch, for a user who finds these people in the directory, or none.
@@ -130,22 +172,15 @@ export class Served {
       stdio: ['ignore', 'pipe', 'inherit'] }).toString();
   }
 
-  dump() { return this.run('dump', this.copied()); }
+  // What 'rooms dump' says of a copy.
+  dump(copy) { return this.run('dump', copy); }
 
-  // Rows of 'rooms review --all' with these members: {rights, removes}, by path and user.
-  review(groups, top) {
-    const copy = this.copied();
+  // What 'rooms review --all' says of these folders of a copy, with these members.
+  review(copy, groups, folders) {
     const members = Object.entries(groups).flatMap(([group, users]) =>
       users.map((user) => `${group},${user}`));
     writeFileSync(`${this.folder}/groups.csv`, ['group,user', ...members, ''].join('\n'));
     this.run('groups', copy, `${this.folder}/groups.csv`);
-    const rows = this.run('review', '--all', copy, top).trim().split('\n').slice(1);
-    const found = new Map();
-    for (const row of rows) {
-      const [path, , user, rights, removes] = row.split(',');
-      if (!found.has(path)) found.set(path, new Map());
-      found.get(path).set(user, { rights, removes: removes === 'yes' });
-    }
-    return found;
+    return folders.map((name) => this.run('review', '--all', copy, `/${name}`)).join('');
   }
 }

@@ -204,8 +204,8 @@ class Sharing(Known, Deeper, Looking, Tree):
                    'the group staff may also remove this document',
                    css='.sharing-view')
         self.panel('/open')
-        alice.says('Whoever may add documents here may also remove and rename what others made.',
-                   css='.note-of')
+        alice.says('Whoever may add documents here may also remove and rename what others made. '
+                   'To add people, first press this.', css='.note-of')
         assert not alice.all('.picker') and not alice.all('.holders select')
         alice.press('Let only those remove who are said to')
         alice.until(lambda: alice.all('dialog .outcome[aria-busy=false]'), 'the question')
@@ -227,6 +227,7 @@ class Sharing(Known, Deeper, Looking, Tree):
         alice.until(lambda: alice.all('dialog .outcome[aria-busy=false]'), 'the question')
         assert 'Nobody gains or loses anything' in alice.texts('dialog')[0]
         self.confirm('Only these people')
+        alice.says('This folder has a list of its own')
         assert self.list_of('/letters/2026').startswith('list:ap\n')
         assert [line for line in self.list_of('/letters/2026').split('\n') if ':I' in line] == []
         assert self.ask('GET', '/folder/letters/2026', user='bob') != ''
@@ -236,6 +237,7 @@ class Sharing(Known, Deeper, Looking, Tree):
         alice.click(alice.one('.following input'))
         alice.until(lambda: alice.all('dialog .outcome[aria-busy=false]'), 'the question')
         self.confirm('Follow it')
+        alice.says('This folder follows “letters”')
         assert self.list_of('/letters/2026') == before
 
     def stays_below(self):
@@ -277,13 +279,18 @@ class Sharing(Known, Deeper, Looking, Tree):
         alice = self.alice
         self.put_list('/letters/2026', 'list:a', 'A:fd:kim:rxtc')
         self.panel('/letters/2026')
-        for day, shown, own in (('2999-05-31', 'until 31 May 2999',
-                                 ['A:g:until.2999-05-31.read.u.kim@alice:']),
-                                ('', 'no end', [])):
+        one, other = (f'A:g:until.2999-05-{day}.read.u.kim@alice:' for day in (30, 31))
+        for day, shown, own, acts in (
+                ('2999-05-31', 'until 31 May 2999', [other],
+                 lambda: alice.press('Set', '.holders')),
+                # It counts also where the focus just goes elsewhere.
+                ('2999-05-30', 'until 30 May 2999', [one],
+                 lambda: alice.one('.adding input').click()),
+                ('', 'no end', [], lambda: alice.press('Set', '.holders'))):
             alice.script('''[...document.querySelectorAll('.holders button')].find((one) =>
                 one.getAttribute('aria-label')?.startsWith('Last day of kim')).click();
                 document.querySelector('.holders input').value = arguments[0];''', day)
-            alice.press('Set', '.holders')
+            acts()
             alice.until(lambda: shown in alice.one('.holders').text, shown)
             assert self.own_of('/letters/2026') == ['A:fd:kim:rxtc', *own]
         self.put_list('/letters/2026', 'list:a')
@@ -427,6 +434,7 @@ PLAY = [
     ('another manager changes the list', Sharing.changed_meanwhile),
     ('what the levels can’t say', Sharing.not_by_levels),
     ('people by their names', Sharing.by_name),
+    ('a name that isn’t chosen', Sharing.left_in_field),
     ('names that are wrong', Sharing.wrong_names),
     ('names alone, without members', Sharing.names_only),
     ('names that came long ago', Sharing.old_names),
@@ -441,6 +449,7 @@ PLAY = [
     ('a way that may be needed', Sharing.way_back_unsure),
     ('exceptions further down', Sharing.exceptions),
     ('a thousand objects further down', Sharing.thousand),
+    ('a line beside that of the folder above', Sharing.off_this_list),
     ('a look that is stopped', Sharing.stopped_look),
     ('a look that fails', Sharing.failed_look),
     ('shared above a thousand objects', Sharing.shared_above),
@@ -453,6 +462,7 @@ PLAY = [
     ('five thousand users', Sharing.many_users),
     ('a list that is full', Sharing.full_list),
     ('it fits a telephone', Sharing.looks),
+    ('a name is touched', Sharing.touched),
     ('light and dark', Sharing.lights),
     ('what a screen reader is told', Sharing.read_aloud),
     ('levels, by the lists of docs and at random', Sharing.level_tests),

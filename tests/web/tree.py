@@ -165,6 +165,26 @@ class Tree:
         alice.press('Cancel', 'dialog')
         alice.resize(1200, 900)
 
+    def touched(self):
+        """Each way to touch a name but that button itself gives what the name gives."""
+        alice = self.alice
+        # Marionette has no touch here.
+        if self.browser == 'firefox':
+            return
+        alice.resize(390, 844)
+        for up, wanted in ((4, 'read'), (-12, 'change')):
+            self.panel('/letters/2026')
+            alice.write('.picker input', 'dana')
+            alice.until(lambda: alice.all('.quick'), 'a choice')
+            left, right, top = alice.script(
+                "const { left, right, top } = document.querySelector('.quick')"
+                '.getBoundingClientRect(); return [left, right, top]')
+            alice.touch((left + right) / 2, top - up)
+            got = alice.until(lambda: alice.script(
+                "return document.querySelector('.picked select')?.value"), 'the name')
+            assert got == wanted, (up, got)
+        alice.resize(1200, 900)
+
     def lights(self):
         """In either light each text stands out from its ground, at the panel and in a question, as
         far as 4.5 to 1."""

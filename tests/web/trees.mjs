@@ -10,8 +10,8 @@ const MASKS = ['rxtc', 'rwaxtc', 'rwaxDtc', ALL];
 const LETTERS = 'rxwaDtdcCo';
 
 export class Chance {
-  // Of 100 lists so many are written by hand.
-  constructor(seed, byHandOf = 25) { Object.assign(this, { seed, byHandOf }); }
+  // Of 100 lists so many are written by hand. Most lists name the person, and let everybody pass.
+  constructor(seed, byHandOf = 25) { Object.assign(this, { seed, byHandOf, person: null }); }
 
   random(most) {
     this.seed = (this.seed * 1103515245 + 12345) % 2147483648;
@@ -37,6 +37,7 @@ export class Chance {
   lines(kind) {
     const reach = kind === 'folder' ? 'fd' : '';
     const who = Array.from({ length: this.random(4) }, () => this.someone());
+    if (this.person !== null && this.is(70)) who.unshift([this.person, '']);
     const seen = [...new Map(who.map((one) => [one[0], one])).values()];
     const masks = kind === 'folder' ? MASKS : ['rxtc', 'rwaxtc', ALL];
     const made = seen.map(([name, group]) => [this.pick(masks), `${reach}${group}:${name}`]);
@@ -44,7 +45,7 @@ export class Chance {
       .map(([mask, rest]) => `A:${rest}:${mask}`);
     const keep = kind === 'folder' && this.is(60) ? ['D:d:EVERYONE@:Dd'] : [];
     const own = keep.length > 0 && this.is(40) ? ['A:fi:OWNER@:d'] : [];
-    const ways = kind === 'folder' && this.is(40)
+    const ways = kind === 'folder' && this.is(this.person === null ? 40 : 90)
       ? [`A::${this.pick([...USERS.slice(1), ...Array(5).fill('AUTHENTICATED@')])}:x`] : [];
     const drops = kind === 'folder' && this.is(10) ? [`A:g:${this.pick(NAMES)}:wx`] : [];
     return [...those(true), ...keep, ...those(false), ...ways, ...drops, ...own];

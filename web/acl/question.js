@@ -5,9 +5,10 @@
 //
 // An object is {path, kind, text, object: {owner, group}}. 'text' is its list, FOLLOWS where it
 // only follows its folder, or null where it may not be read; so are owner and group. OF_EACH as
-// owner is each caller, and '' is somebody else. A folder comes before what is in it; the first is
-// '/'. A change is {set: path, text}, {move: path, to}, {come: path, kind, text, object} or {look:
-// path}. 'asked' is what partiesFor says. UNNAMED stands before the name of what has no name here.
+// owner is each caller, and as group one in which is whoever may be in a group; '' is somebody
+// else. A folder comes before what is in it; the first is '/'. A change is {set: path, text},
+// {move: path, to}, {come: path, kind, text, object} or {look: path}. 'asked' is what partiesFor
+// says. UNNAMED stands before the name of what has no name here.
 
 import { freeName } from './callers.js';
 import { printList } from './entries.js';
@@ -51,12 +52,29 @@ export const objectsAlone = (those) => [
 // The text of a list as lines of a question, or the word in its place.
 const bodyOf = (text) => (text ?? UNREAD).replace(/^#(?!:)/gm, '#:').replace(/\n$/, '');
 
+const groupOfEach = ({ free }) => `${free}each`;
+// Whoever may be in it: where members are known, those of any group that is asked about.
+const mayBeIn = ({ user, groups, owns, isExact }) => (isExact ? groups.length > 0
+  : !owns && (user !== null || groups.length > 0));
+
+// Who is in which group: {pairs, sets}.
+function membersIn(asked, objects) {
+  if (!objects.some(({ object: { group } }) => group === OF_EACH)) return asked;
+  const those = asked.all.filter(mayBeIn);
+  const keys = new Set(those.map(({ key }) => key));
+  const each = groupOfEach(asked);
+  return { pairs: [...asked.pairs, ...those.filter(({ key, user }) => key === user)
+    .map(({ user }) => [each, user])],
+  sets: asked.sets.map((one) => (keys.has(one.label)
+    ? { ...one, groups: [...one.groups, each] } : one)) };
+}
+
 // Whose it is, where that can't be read and a list asks for it.
-const nobodyOf = ({ all }) => Object.fromEntries(
-  all.filter(({ owns }) => owns).map(({ owns, key }) => [owns, key]));
+const nobodyOf = (asked) => ({ each: groupOfEach(asked), ...Object.fromEntries(
+  asked.all.filter(({ owns }) => owns).map(({ owns, key }) => [owns, key])) });
 
 function headOf({ kind, path, object: { owner, group } }, nobody, sign = '') {
-  const [of, within] = [owner, group].map((one, place) => {
+  const [of, within] = [owner, group === OF_EACH ? nobody.each : group].map((one, place) => {
     if (one === '') return OF_NOBODY;
     return one ?? nobody[['OWNER@', 'GROUP@'][place]] ?? OF_NOBODY;
   });
@@ -76,10 +94,11 @@ function changeLines(change, nobody) {
 export const markFor = (paths) => freeName('~', paths.flatMap((path) => path.split('/')));
 
 export function questionOf(objects, changes, asked, { lists = false, mark = '~' } = {}) {
+  const { pairs, sets } = membersIn(asked, objects);
   const nobody = nobodyOf(asked);
   const lines = [
-    ...asked.pairs.map(([group, user]) => `member ${group} ${user}`),
-    ...asked.sets.map(({ label, user, groups }) => `as ${label} ${user} ${groups.join(',')}`),
+    ...pairs.map(([group, user]) => `member ${group} ${user}`),
+    ...sets.map(({ label, user, groups }) => `as ${label} ${user} ${groups.join(',')}`),
     ...objects.flatMap((one) => [headOf(one, nobody), bodyOf(one.text)]),
     ...changes.flatMap((one) => changeLines(one, nobody)), ...lists ? ['lists'] : []];
   return `${lines.join('\n')}\n`.replaceAll(UNNAMED, mark);

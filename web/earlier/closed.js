@@ -5,7 +5,7 @@ import * as api from '../net/api.js';
 import { LETTERS, isInherited, printEntry, printList } from '../acl/entries.js';
 import { isException } from '../acl/inherit.js';
 import { cutOff } from '../acl/levels.js';
-import { putDocument } from '../net/door.js';
+import { putDocument } from '../net/in_pieces.js';
 import { seeList, setIfSame } from '../net/matched_list.js';
 import { documentThen } from '../net/nights.js';
 import { ListsThen } from './readers_then.js';

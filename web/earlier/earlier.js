@@ -11,7 +11,7 @@ import { notShown, waitFor } from '../ui/messages.js';
 import { nightsKept } from '../net/nights.js';
 import { marked } from '../text/invisible.js';
 import { nightFault, timeOf } from '../text/night_words.js';
-import { kindWords } from '../folder/sorting.js';
+import { kindWords, sorted } from '../folder/sorting.js';
 
 const empty = (text) => element('p', { class: 'empty' }, text);
 
@@ -56,8 +56,14 @@ function rowOf(night, folder, row, redraw) {
     kind === null ? [] : actsOf(night, { path, kind, now }, marked(name), redraw))));
 }
 
+// As in the folder, but first what it lacks now, and last what came later.
+function inOrder(rows) {
+  const turn = ({ kind, now }) => (kind === null ? 2 : Number(now !== null));
+  return sorted(rows).sort((one, other) => turn(one) - turn(other));
+}
+
 async function folderRows(night, path, redraw) {
-  const rows = await bothOf(night.night, path);
+  const rows = inOrder(await bothOf(night.night, path));
   if (!rows.some(({ kind }) => kind !== null)) return empty(texts.earlier.empty);
   const body = element('tbody', {}, rows.map((row) => rowOf(night, path, row, redraw)));
   const table = element('table', { class: 'folder then', role: 'grid' },
@@ -108,7 +114,7 @@ class EarlierView {
     const whole = { path: this.path, kind: 'folder' };
     const back = async () => {
       const now = await waitFor(kindNow(this.path));
-      if (await putBack(night, { ...whole, now })) await this.fill(night, this.path);
+      if (await putBack(night, { ...whole, now }, true)) await this.fill(night, this.path);
     };
     this.all.replaceChildren(
       button(texts.earlier.getAll, () => get(night, whole).catch(tellNightFault)),

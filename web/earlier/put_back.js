@@ -70,7 +70,7 @@ async function looked({ night }, missing, documents) {
     seeThere(documents, panel.show, panel.isStopped)]);
   const [opens] = await waitFor(look).finally(panel.remove);
   if (panel.isStopped()) return null;
-  const isOpen = opens.gained.length + opens.unknown > 0;
+  const isOpen = opens.gained.length + opens.perhaps.length + opens.unknown > 0;
   const isOffered = isOpen
     && await waitFor(mayClose(tops.map(({ path }) => api.parentOf(path))));
   return { opens, isOpen, readers: await waitFor(whoReads(opens.all, isOffered)) };
@@ -81,9 +81,10 @@ const warningsOf = (warned) => (warned.length === 0 ? null : element('ul',
   warned.map((text) => element('li', { class: 'bad' }, text))));
 
 // What is chosen of it: {what: 'missing' or 'all', who: 'alone', 'then' or 'now'}, or null.
-async function asked(night, object, all) {
+async function asked(night, object, all, isMissingAlone) {
   const missing = all.filter(({ isThere }) => !isThere);
-  const documents = all.filter(({ isThere, kind }) => isThere && kind === 'document');
+  const documents = all.filter(({ isThere, kind }) =>
+    !isMissingAlone && isThere && kind === 'document');
   const there = documents.length;
   if (missing.length === 0 && there === 0) {
     tell('good', texts.earlier.nothingMissing);
@@ -100,7 +101,9 @@ async function asked(night, object, all) {
   const more = element('div', {}, warningsOf(sure), perhaps.length === 0 ? null
     : element('details', {}, element('summary', {}, texts.would.perhaps), warningsOf(perhaps)),
   readers.box);
-  const what = await question(texts.earlier.question(nameShown(object.path)),
+  const title = isMissingAlone ? texts.earlier.putBackMissing
+    : texts.earlier.question(nameShown(object.path));
+  const what = await question(title,
     putBackWords(missing.length, there, night, readers.box !== null), answers, more);
   return what === null ? null : { what, who: readers.chosen() };
 }
@@ -138,20 +141,27 @@ async function bringAll(night, object, chosen, who) {
   return { ...turn, kept };
 }
 
-// Puts back an object, and all that was below it. Returns whether anything changed.
-export async function putBack(night, object) {
+// The folder into which it came: that of what came back, if it is one.
+function placeOf(chosen, { path }) {
+  const folders = new Set(topsOf(chosen).map((one) => api.parentOf(one.path)));
+  return placeWords(folders.size === 1 ? [...folders][0] : path);
+}
+
+// Puts back an object, and all that was below it, or of that what 'isMissingAlone' now. Returns
+// whether anything changed.
+export async function putBack(night, object, isMissingAlone = false) {
   const unseen = [];
   const [above, below] = await waitFor(Promise.all([
     missingAbove(object.path), allThen(night.night, object, unseen)]));
   const all = [...above, ...below];
-  const answer = await asked(night, object, all);
+  const answer = await asked(night, object, all, isMissingAlone);
   if (answer === null) return false;
   const chosen = all.filter(({ isThere, kind }) =>
     !isThere || (answer.what === 'all' && kind === 'document'));
   const { failed, left, stopped, kept, ...turn } =
     await bringAll(night, object, chosen, answer.who);
   const done = turn.done - kept;
-  if (done > 0) tell('good', texts.earlier.isBack(done, placeWords(api.parentOf(object.path))));
+  if (done > 0) tell('good', texts.earlier.isBack(done, placeOf(chosen, object)));
   if (failed.length > 0) tellNightFault(failed[0].fault);
   const lacking = failed.length + left.length + kept;
   const isTold = stopped || kept > 0 || lacking > 1;

@@ -11,7 +11,7 @@ import { AFTER, BEFORE } from '../acl/answer.js';
 import { toTell } from '../acl/callers.js';
 import { printList, readListText } from '../acl/entries.js';
 import { cutOff } from '../acl/levels.js';
-import { FOLLOWS } from '../acl/question.js';
+import { FOLLOWS, OF_EACH } from '../acl/question.js';
 import { partyName } from '../text/parties.js';
 
 // Of that night nobody tells who owned it.
@@ -101,24 +101,44 @@ const readsAt = (said, side) => (caller, path) => {
   return row === null ? null : row.mask.includes('r');
 };
 
-// Who may read more than that night: {gained: [{name, count, isPerhaps}], unknown, all}, of which
-// 'unknown' says of how many objects that can't be seen, and 'all' is what was read, for those who
-// ask for readers. 'show' is told how far it is.
+// Who could read that night: {others, owner, members}, functions of a caller and a path. Whoever
+// owned it, or was in its group, may have been denied it alone, or allowed.
+async function readThen({ objects, known, way }, changes, ask) {
+  const isNamed = (who) => objects.some(({ text }) => text?.includes(who));
+  // Any group may have been that.
+  const groups = known?.members && isNamed('GROUP@') ? Object.keys(known.groups) : [];
+  const beside = [...objects, ...groups.map((group) => ({ object: { owner: '', group } }))];
+  const of = (whose) => ask({ objects: objects.map((one) => (
+    { ...one, object: { ...one.object, ...whose } })) }, [...way, ...changes, ...beside]);
+  const [before, ofOwner, ofGroup, after] = await Promise.all([of({}),
+    isNamed('OWNER@') ? of({ owner: OF_EACH }) : null,
+    isNamed('GROUP@') ? of({ group: OF_EACH }) : null, ask({ objects: way, changes }, beside)]);
+  const [others, owner, members] = [before, ofOwner ?? before, ofGroup ?? before]
+    .map((said) => readsAt(said, BEFORE));
+  return { others, owner, members, after, has: readsAt(after, AFTER) };
+}
+
+// Who may read more than that night: {gained: [{name, count, isPerhaps}], perhaps, unknown, all}.
+// 'perhaps' has those for whom it depends on whose it was, 'unknown' says of how many objects it
+// can't be seen, and 'all' is what was read, for those who ask for readers. 'show' is told how far
+// it is.
 export async function opensBy(night, missing, show, isStopped) {
   const all = await readAll(night, missing, show, isStopped);
-  if (missing.length === 0 || isStopped()) return { gained: [], unknown: 0, all };
-  const { me, known, way, objects, then } = all;
-  const changes = comingTo(way, missing, me, () => FOLLOWS);
-  const ask = (given, beside) => foresee({ ...given, known, me, beside });
-  const [before, after] = await Promise.all([ask({ objects }, [...way, ...changes]),
-    ask({ objects: way, changes }, objects)]);
-  const [had, has] = [readsAt(before, BEFORE), readsAt(after, AFTER)];
+  if (missing.length === 0 || isStopped()) return { gained: [], perhaps: [], unknown: 0, all };
+  const { me, known, way, then } = all;
+  const { others, owner, members, has, after } = await readThen(all,
+    comingTo(way, missing, me, () => FOLLOWS),
+    (given, beside) => foresee({ ...given, known, me, beside }));
   const [any] = after.callers;
   const paths = then.map(({ path }) => path);
-  const isKnown = (path) => had(any, path) !== null && has(any, path) !== null;
-  const gained = namedAt(after, paths.filter(isKnown), known,
-    (caller, path) => caller.user !== me && has(caller, path) && !had(caller, path));
-  return { gained, unknown: paths.filter((path) => !isKnown(path)).length, all };
+  const isKnown = (path) => others(any, path) !== null && has(any, path) !== null;
+  const isNew = (...each) => !others(...each) && !members(...each);
+  const isPerhapsNew = (...each) => !isNew(...each)
+    && ![others, owner, members].every((had) => had(...each));
+  const [gained, perhaps] = [isNew, isPerhapsNew].map((holds) => namedAt(after,
+    paths.filter(isKnown), known, (caller, path) => caller.user !== me && has(caller, path)
+      && holds(caller, path)));
+  return { gained, perhaps, unknown: paths.filter((path) => !isKnown(path)).length, all };
 }
 
 // Whether I may change the lists of what I make in each of these folders.

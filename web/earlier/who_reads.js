@@ -8,12 +8,14 @@ import { readersThen } from './readers_then.js';
 const MOST_NAMED = 4;
 
 // What has to be minded before something comes back as its folder is: {sure, perhaps}, sentences.
-export function opensWords({ gained, unknown }) {
-  const say = (those) => [...new Set(those.map(({ count }) => count))].map((many) =>
-    texts.earlier.opens(shortened(those.filter(({ count }) => count === many)
-      .map(({ name }) => name), MOST_NAMED), many));
-  return { perhaps: say(gained.filter(({ isPerhaps }) => isPerhaps)),
-    sure: [...say(gained.filter(({ isPerhaps }) => !isPerhaps)),
+export function opensWords({ gained, perhaps, unknown }) {
+  const say = (those, words) => [...new Set(those.map(({ count }) => count))].map((many) =>
+    words(shortened(those.filter(({ count }) => count === many).map(({ name }) => name),
+      MOST_NAMED), many));
+  const gaining = (isSure) => say(gained.filter(({ isPerhaps }) => isPerhaps !== isSure),
+    texts.earlier.opens);
+  return { perhaps: [...gaining(false), ...say(perhaps, texts.earlier.opensByOwners)],
+    sure: [...gaining(true),
       ...unknown > 0 ? [texts.earlier.perhapsOpens(unknown)] : []] };
 }
 

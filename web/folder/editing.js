@@ -1,7 +1,7 @@
 // A document that a program on the computer opens at its address, and saves in place
 // (docs/drive.md). A room may have no such addresses: that is found out once in a visit.
 
-import { target } from '../net/api.js';
+import { target } from '../net/addresses.js';
 import { texts } from '../language/language.js';
 
 // The links that programs take, and of which documents.

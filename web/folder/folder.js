@@ -12,6 +12,7 @@ import { isWorking } from '../ui/working.js';
 import { arrived, people } from '../net/directory.js';
 import { detailsIn } from '../net/door.js';
 import { knowNights } from '../net/nights.js';
+import { ASKED } from '../net/sent_first.js';
 import { learnEditing } from './editing.js';
 import { finder } from './find.js';
 import { markAllClosed } from './closed_rows.js';
@@ -21,8 +22,6 @@ import { removeObjects } from './removal.js';
 import { chosenOf, drawRows, newLook, shownOf } from './rows.js';
 import { tagSeen } from './safe_put.js';
 import { replaceBy, uploadAll } from './upload.js';
-
-const ASKED = 'rxwaDtcCo';
 
 // The filter, which also finds what is further down, and what can be done with what is selected.
 // Its place is kept when nothing is.
@@ -39,7 +38,7 @@ function tools(look, does, redraw, found) {
     redraw();
   });
   const told = element('span', { class: 'count', role: 'status' });
-  const group = { class: 'chosen', role: 'group', 'aria-label': texts.folder.chosen };
+  const group = { class: 'chosen none', role: 'group', 'aria-label': texts.folder.chosen };
   const chosen = element('div', group, told,
     button(texts.acts.download, () => does('download'), { class: 'small' }),
     button(texts.folder.move, () => does('move'), { class: 'small' }),

@@ -44,14 +44,21 @@ const hit = ({ path, count, text }, top, words) => element('li', {},
     api.parentOf(path) === '/' ? texts.places.all : marked(api.parentOf(path)))));
 
 const hint = (words) => element('p', { class: 'hint' }, words);
-const toldOf = ({ found }) =>
-  (found.length === 0 ? texts.search.none : texts.search.found(found.length));
+// That none has the words is so of those that were looked through.
+function toldOf({ found, all, unread }) {
+  if (found.length > 0) return texts.search.found(found.length);
+  return all && unread === 0 ? texts.search.none : texts.search.noneSoFar;
+}
+
+// So many are shown at most.
+const MOST = 50;
+const restOf = ({ found }) => (found.length < MOST ? texts.search.notAll : texts.search.more);
 
 const shown = (told, top, words) => [
   element('h2', {}, texts.search.texts(momentWords(told.night))),
   element('p', {}, toldOf(told)),
   element('ul', { class: 'places found in-texts' }, told.found.map((one) => hit(one, top, words))),
-  told.all ? null : hint(texts.search.more),
+  told.all ? null : hint(restOf(told)),
   told.unread > 0 ? hint(texts.search.unread(told.unread)) : null,
   told.without > 0 ? hint(texts.search.without(told.without)) : null,
   hint(texts.search.rule)];

@@ -9,9 +9,9 @@ import { sorted } from './sorting.js';
 import { nameFault, sentenceOf } from '../text/words.js';
 import { noAnswerWords } from '../text/would_words.js';
 
-// Goes from folder to folder. 'chosen.path' is the one that is looked at, and 'moved' aren't
-// offered.
-function chooser(chosen, moved) {
+// Goes from folder to folder. 'chosen.path' is the one that is looked at, which 'onLook' is told,
+// and 'moved' aren't offered.
+function chooser(chosen, moved, onLook) {
   const where = element('p', { class: 'where', 'aria-live': 'polite' });
   const folders = element('ul', { class: 'chooser', 'aria-label': texts.moving.folders });
   const line = (mark, name, path) => element('li', {},
@@ -24,6 +24,7 @@ function chooser(chosen, moved) {
   };
   const goTo = async (path) => {
     chosen.path = path;
+    onLook(path);
     where.replaceChildren(
       ...texts.moving.into(path === '/' ? texts.places.top : nameText(path)));
     const above = path === '/' ? [] : [line('up', texts.moving.above, api.parentOf(path))];
@@ -53,7 +54,11 @@ export async function askMove(path, kind, typed = path, wrong = null) {
     isFile: kind === 'document',
   };
   const title = kind === 'folder' ? texts.moving.renameFolder : texts.moving.renameDocument;
-  const names = await form(title, [name], texts.moving.moveIt, chooser(chosen, [path]));
+  const send = element('span', {});
+  const onLook = (folder) => {
+    send.textContent = folder === api.parentOf(path) ? texts.moving.renameIt : texts.moving.moveIt;
+  };
+  const names = await form(title, [name], send, chooser(chosen, [path], onLook));
   return names && api.join(chosen.path, names[0]);
 }
 
@@ -62,7 +67,7 @@ export async function askPlace(objects) {
   const paths = objects.map(({ path }) => path);
   const chosen = { path: api.parentOf(paths[0]) };
   const given = await form(texts.moving.several(objects.length), [], texts.moving.moveHere,
-    chooser(chosen, paths));
+    chooser(chosen, paths, () => {}));
   return given && chosen.path;
 }
 

@@ -23,19 +23,22 @@ const IN_ORDER = 'rwdC';
 
 // The letters of r, w, d and C that somebody has by one state of an object, or of what others make
 // in it, and not by another one; null where that isn't known.
-function lettersAt(said, { path, kind }, caller, [had, has]) {
+function lettersAt(said, { path, kind, isDeep }, caller, [had, has]) {
   const [before, then] = [had, has].map((side) => said.extentAt(path, kind, caller, side));
   if (before === null || then === null) return null;
-  const isNew = (holds) => then.all.slice(0, 4).some((one, at) =>
+  const isNew = (holds) => then.all.slice(0, isDeep ? 4 : 2).some((one, at) =>
     holds(one) && !holds(before.all[at]));
   return [...Object.keys(LETTERS).filter((letter) => isNew(({ mask }) =>
     LETTERS[letter].test(mask))), ...isNew(({ removes }) => removes) ? ['d'] : []];
 }
 
 // The places of which is told what changes: what is moved, and below it where there are rows.
+// 'isDeep' says that there are folders in it.
 function placesIn(said, { to, object, nodes }) {
   const then = (path) => `${to}${path.slice(object.path.length)}`;
-  return [object, ...nodes].map((one) => ({ ...one, from: one.path, path: then(one.path) }))
+  const folders = nodes.filter(({ kind }) => kind === 'folder');
+  return [object, ...nodes].map((one) => ({ ...one, from: one.path, path: then(one.path),
+    isDeep: folders.some(({ path }) => path.startsWith(`${one.path}/`)) }))
     .filter((one) => one.path === to || said.places.has(one.path)
       || [...said.places].some((path) => path.startsWith(`${one.path}/${UNNAMED}`)));
 }
@@ -58,12 +61,15 @@ function changesOf(said, places, sides, me) {
 }
 
 // What is told of places: [{who, letters, places, isPerhaps}]. Those who gain the same share a
-// sentence, and so do places of which the same is told.
-function toldOf(changes, known) {
+// sentence, and so do places of which the same is told. Whoever is 'named' anywhere isn't one of
+// everybody else.
+function toldOf(changes, known, named) {
   const groups = new Map();
   for (const { place, found } of changes) {
     const alike = new Map();
-    for (const { caller, says } of shared(found)) {
+    const apart = shared(found);
+    for (const { caller, says } of found.filter((one) =>
+      apart.includes(one) || named.has(one.caller.id))) {
       const letters = [...IN_ORDER].filter((one) => says.has(one)).join('');
       const key = JSON.stringify([letters, caller.isPerhaps]);
       alike.set(key, [...alike.get(key) ?? [], partyName(caller, known)]);
@@ -111,22 +117,28 @@ const withoutRemoving = (changes) => changes.map((one) => ({ ...one,
 function changeWords({ said, moves }, [from, to], [known, me]) {
   const places = moves.map((one) => placesIn(said, one)
     .map((place) => ({ ...place, top: one.object.path })));
-  const told = (sides, without) => toldOf(without(places.flatMap((those) =>
-    changesOf(said, those, sides, me))), known);
+  const changes = (sides) => places.flatMap((those) => changesOf(said, those, sides, me));
   const isRead = (folders) => folders.at(-1).text !== null;
-  const gained = told([BEFORE, AFTER], isRead(from) ? (all) => all : withoutRemoving);
-  const lost = isRead(to) ? told([AFTER, BEFORE], (all) => all) : [];
-  return { gained: sentencesOf(gained, texts.moving.gaining, 'bad'),
-    lost: sentencesOf(lost, texts.moving.losing, 'unsure') };
+  const gaining = changes([BEFORE, AFTER]);
+  const gained = isRead(from) ? gaining : withoutRemoving(gaining);
+  const lost = isRead(to) ? changes([AFTER, BEFORE]) : [];
+  const named = new Set([...gained, ...lost].flatMap(({ found }) =>
+    shared(found).map(({ caller }) => caller.id)));
+  return { gained: sentencesOf(toldOf(gained, known, named), texts.moving.gaining, 'bad'),
+    lost: sentencesOf(toldOf(lost, known, named), texts.moving.losing, 'unsure') };
 }
 
-// What can't be said: of folders on the way, of what is moved, and of what is in it.
+// The folders of one way alone whose lists can't be read, as sentences.
+const unreadOf = (way, other, say) => way.filter(({ text, path }) => text === null
+  && !other.some((one) => one.path === path)).map(({ path }) => say(placeWords(path)));
+
+// What can't be said: of folders on the way, of what is moved, and of what is in it. By a list of
+// the old way somebody may have been barred, or may have removed it.
 function unknownWords(pieces, [from, to]) {
   const unread = pieces.filter(({ object }) => object.text === null);
-  const closed = to.filter(({ text, path }) => text === null
-    && !from.some((one) => one.path === path));
   const below = pieces.flatMap((one) => one.unread);
-  return [...closed.map(({ path }) => texts.moving.unknownAt(placeWords(path))),
+  return [...unreadOf(to, from, texts.moving.unknownAt),
+    ...unreadOf(from, to, texts.moving.unknownFrom),
     ...unread.length === 0 ? [] : [texts.moving.unknownOf(shortened(unread.map(({ object }) =>
       isolated(api.nameOf(object.path))), MOST_PLACES))],
     ...below.length === 0 ? [] : [texts.outcome.unreadThere(unreadNames(below, MOST_PLACES))],

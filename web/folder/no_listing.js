@@ -4,7 +4,8 @@
 import * as api from '../net/api.js';
 import { button, element, field, icon, nameText } from '../ui/dom.js';
 import { texts } from '../language/language.js';
-import { linkTo, whereIs } from '../ui/links.js';
+import { linkTo } from '../ui/links.js';
+import { whereIs } from '../net/addresses.js';
 import { askedFor } from '../ui/ask_whom.js';
 import { dayWords, forget, mine, remembered } from '../net/directory.js';
 import { forgetTags } from '../net/given_out.js';

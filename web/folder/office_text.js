@@ -2,8 +2,9 @@
 // with parts in XML, which are read here: no script of it runs, and nothing of it is fetched. What
 // is wrong with it isn't told: there is no text.
 
-// What one document may unpack to.
+// What one document may unpack to, with what it repeats; and blanks that it counts.
 const MOST = 16 * 1048576;
+const MOST_BLANKS = 1000;
 const KINDS = {
   docx: /^word\/document\.xml$/, odt: /^content\.xml$/, ods: /^content\.xml$/,
   odp: /^content\.xml$/, xlsx: /^xl\/worksheets\/sheet(\d+)\.xml$/,
@@ -69,21 +70,33 @@ const BREAKS = { tab: '\t', br: '\n', cr: '\n', 'line-break': '\n' };
 const TEXTS = ['t', 'v'];
 const isOfWords = (node, isOpen) => isOpen || TEXTS.includes(node.localName);
 
-// 'shared' has the texts of cells that have only a number of one, and 'isOpen' says that all that
-// isn't an element is text.
-function textIn(node, shared, isOpen) {
+// A document says by few bytes that a text stands there again, or a blank many times: that counts.
+function repeated(text, budget) {
+  budget.left -= text.length;
+  if (budget.left < 0) throw new RangeError();
+  return text;
+}
+
+// 'all' is {shared, isOpen, budget}: the texts of cells that have only a number of one, whether all
+// that isn't an element is text, and what it may still come to.
+function textIn(node, all) {
   const own = node.localName;
   if (Object.hasOwn(BREAKS, own)) return BREAKS[own];
-  if (own === 's' && isOpen) return ' '.repeat(Number(node.getAttribute('text:c') ?? 1) || 1);
-  if (own === 'c' && node.getAttribute('t') === 's') return shared[Number(node.textContent)] ?? '';
+  if (own === 's' && all.isOpen) {
+    const count = Number(node.getAttribute('text:c') ?? 1) || 1;
+    return repeated(' '.repeat(Math.min(count, MOST_BLANKS)), all.budget);
+  }
+  if (own === 'c' && node.getAttribute('t') === 's') {
+    return repeated(all.shared[Number(node.textContent)] ?? '', all.budget);
+  }
   if (own === 'f') return '';
-  const within = (one) => textIn(one, shared, isOpen);
+  const within = (one) => textIn(one, all);
   const cell = Object.hasOwn(CELLS, own) ? CELLS[own] : null;
   const text = cell !== null ? [...node.children].filter(({ localName }) => localName === cell)
     .map((one) => within(one).trimEnd()).join('\t')
     : [...node.childNodes].map((one) => {
       if (one instanceof Element) return within(one);
-      return one instanceof Text && isOfWords(node, isOpen) ? one.data : '';
+      return one instanceof Text && isOfWords(node, all.isOpen) ? one.data : '';
     }).join('');
   return `${text}${BEHIND[own] ?? ''}`;
 }
@@ -93,20 +106,21 @@ const numberOf = (name, pattern) => Number(pattern.exec(name)?.[1] ?? 0);
 // The text, or null where it isn't such a document.
 export async function textOfOffice(bytes, name) {
   const pattern = KINDS[endingOf(name)];
-  const isOpen = endingOf(name).startsWith('o');
   try {
-    const budget = { left: MOST };
+    const all = { shared: [], isOpen: endingOf(name).startsWith('o'), budget: { left: MOST } };
     const parts = partsOf(bytes);
     const found = parts.filter((one) => pattern.test(one.name)).sort((one, other) =>
       numberOf(one.name, pattern) - numberOf(other.name, pattern));
     const list = parts.find((one) => one.name === SHARED);
-    const shared = list === undefined ? []
-      : [...(await xmlOf(bytes, list, budget)).children].map((one) => textIn(one, [], false));
+    if (list !== undefined) {
+      const { children } = await xmlOf(bytes, list, all.budget);
+      all.shared = [...children].map((one) => textIn(one, all));
+    }
     const texts = [];
     for (const one of found) {
-      const top = await xmlOf(bytes, one, budget);
-      texts.push(textIn(isOpen ? [...top.children].find(({ localName }) => localName === 'body')
-        : top, shared, isOpen));
+      const top = await xmlOf(bytes, one, all.budget);
+      texts.push(textIn(all.isOpen
+        ? [...top.children].find(({ localName }) => localName === 'body') : top, all));
     }
     return found.length === 0 ? null : texts.join('\n').replace(/\n{3,}/g, '\n\n').trim();
   } catch (fault) {

@@ -36,6 +36,9 @@ function nameOf(child, path, acts) {
   return button(label, does, { class: 'object', title, 'data-act': 'open' });
 }
 
+// A box is pressed beside itself too.
+const pressedAround = (box) => element('label', { class: 'around' }, box);
+
 function pickBox(child, look, changed) {
   const box = element('input', {
     type: 'checkbox', 'aria-label': texts.folder.select(marked(child.name)),
@@ -84,7 +87,7 @@ function row(child, folder, look, acts, changed) {
   const known = look.known.get(child.name);
   const made = element('tr', { 'data-kind': child.kind, 'data-path': path,
     'aria-label': marked(child.name), 'aria-selected': String(look.chosen.has(child.name)) },
-    element('td', { class: 'pick' }, pickBox(child, look, changed)),
+    element('td', { class: 'pick' }, pressedAround(pickBox(child, look, changed))),
     element('td', { class: 'what' }, nameOf(child, path, acts), knownLine(known, look)),
     look.shows === null ? element('td', { class: 'kind' }, kindWords(child)) : [],
     knownCells(known, look),
@@ -150,14 +153,16 @@ export function drawRows(body, folder, look, acts, onChosen, focusOn = null, wan
   const redraw = (pick) => drawRows(body, folder, look, acts, onChosen, pick);
   const shown = shownOf(look);
   if (shown.length === 0) {
-    body.replaceChildren(element('p', { class: 'empty' }, look.children.length === 0
-      ? texts.folder.empty : texts.folder.nothingFits));
+    body.replaceChildren(element('p', { class: 'empty' }, look.children.length > 0
+      ? texts.folder.nothingFits : [texts.folder.empty,
+        element('span', { class: 'desk' }, ` ${texts.folder.addHere}`),
+        element('span', { class: 'phone' }, ` ${texts.folder.addByThumb}`)]));
     onChosen();
     return;
   }
-  const all = element('th', { class: 'pick', scope: 'col' }, pickAll(look, redraw));
+  const all = element('th', { class: 'pick', scope: 'col' }, pressedAround(pickAll(look, redraw)));
   const changed = () => {
-    all.replaceChildren(pickAll(look, redraw));
+    all.replaceChildren(pressedAround(pickAll(look, redraw)));
     onChosen();
   };
   const { rows, end, growTo } = growing(shown,

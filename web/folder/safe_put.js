@@ -2,8 +2,9 @@
 // or what was seen.
 
 import * as api from '../net/api.js';
-import { putDocument, removeLeft, tagAt } from '../net/door.js';
+import { removeLeft, tagAt } from '../net/door.js';
 import { noteTag, tagGivenOut } from '../net/given_out.js';
+import { putDocument } from '../net/in_pieces.js';
 import { isUnanswered } from '../net/retry.js';
 import { freeBeside } from './replacing.js';
 

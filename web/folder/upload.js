@@ -4,6 +4,7 @@ import { endsAll, interruptionsSeen, isUnanswered } from '../net/retry.js';
 import * as api from '../net/api.js';
 import { texts } from '../language/language.js';
 import { button } from '../ui/dom.js';
+import { forgetPieces } from '../net/in_pieces.js';
 import { DOCUMENT_OF_ROOM } from '../net/large.js';
 import { documentLine, faultOf, normal, treeLine } from './jobs.js';
 import { tell, tellFault } from '../ui/messages.js';
@@ -57,14 +58,18 @@ class Upload {
     this.ask = askingInTurn(this.jobs.length);
     /** @type {Promise<any>} */
     this.large = Promise.resolve();
-    this.close = button(texts.acts.close, () => this.panel.remove(),
-      { class: 'small', hidden: true });
+    this.close = button(texts.acts.close, () => this.leave(), { class: 'small', hidden: true });
     this.again = button(texts.acts.tryAgain, () => asWork(this.run()),
       { class: 'small', hidden: true });
     this.stop = button(texts.acts.stop, () => this.halt(), { class: 'small', hidden: true });
     this.panel = newPanel(texts.upload.title, texts.upload.to(placeWords(folder)), this.stop,
       this.again, this.close);
     this.panel.rows.append(...this.lines.map(({ line }) => line));
+  }
+
+  leave() {
+    forgetPieces(this.jobs.map(({ file }) => file));
+    this.panel.remove();
   }
 
   withState(...states) {
@@ -122,7 +127,7 @@ class Upload {
     return this.onSome();
   }
 
-  // Large ones go one after the other: nginx refuses a third of one user, and the door takes one.
+  // Large ones go one after the other: the door takes one of a user, and has four.
   async afterLarge({ path, file }, send) {
     if (file.size <= DOCUMENT_OF_ROOM) return send();
     const before = this.large;
@@ -212,7 +217,7 @@ class Upload {
     const bad = this.withState('bad');
     const whole = bad.length === 0 && this.lines.every(({ faults = [] }) => faults.length === 0);
     this.panel.show(this.jobs.length, this.jobs.length);
-    this.panel.say(this.endWords(whole, bad.length));
+    this.panel.say(this.endWords(whole, bad.length), !whole);
     this.stop.hidden = true;
     this.again.hidden = !bad.some(({ again }) => again);
     this.close.hidden = false;

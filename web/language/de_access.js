@@ -74,8 +74,13 @@ export const DE_ACCESS = {
   noDate: 'An diesem Tag kann es nicht enden: Er ist vorbei, oder ein Name ist zu lang.',
   partOfDate: 'Der Tag ist nicht vollständig. Vervollständigen Sie ihn, oder leeren Sie das Feld '
     + 'für kein Ende.',
+  notChosen: (typed) => `„${typed}“ steht im Feld und ist nicht gewählt: Wählen Sie einen Namen `
+    + 'aus der Liste, oder leeren Sie das Feld.',
+  addedToo: (who) => `${capital(who)} stand im Feld und ist jetzt dabei. Drücken Sie dann noch `
+    + 'einmal „Freigeben“.',
   lookedAgain: 'Es sind einige Minuten vergangen, also wird noch einmal angesehen, was weiter '
     + 'unten liegt. Drücken Sie dann noch einmal „Freigeben“.',
+  workedOut: 'Es wird ermittelt, wer dadurch etwas bekommt und wer etwas verliert.',
   writeMail: 'E-Mail schreiben',
   share: 'Freigeben',
   shareAllTheSame: 'Trotzdem freigeben',
@@ -91,10 +96,17 @@ export const DE_ACCESS = {
   goneKeeping: (name) => `${capital(name)} wird aus der Liste genommen. Was eine Gruppe oder ein `
     + 'übergeordneter Ordner gibt, bleibt.',
   gone: (name) => `${capital(name)} wird aus der Liste genommen.`,
+  goneHere: (name, level, from) =>
+    `${capital(name)} wird aus dieser Liste genommen. „${level}“ bleibt, ${from}.`,
   removeAccessTo: (place) => `Zugriff auf ${place} entfernen?`,
   removeAccess: 'Zugriff entfernen',
   removeAccessOf: (name) => `Zugriff entfernen: ${name}`,
   removeAccessOfGroup: (name) => `Zugriff entfernen: die Gruppe ${name}`,
+  takeOff: 'Aus dieser Liste nehmen',
+  takeOffOf: (place) => `Aus der Liste von ${place} nehmen?`,
+  takeLine: (name) => `Aus dieser Liste nehmen: ${name}`,
+  takeLineOfGroup: (name) => `Aus dieser Liste nehmen: die Gruppe ${name}`,
+  takeOffAllTheSame: 'Trotzdem herausnehmen',
   notThis: (name) => `Ohne ${name}`,
   removeAllTheSame: 'Zugriff trotzdem entfernen',
   changeAccess: 'Zugriff ändern?',
@@ -138,6 +150,7 @@ export const DE_ACCESS = {
   },
   open: 'Wer hier Dokumente hinzufügen darf, darf auch entfernen und umbenennen, was andere '
     + 'angelegt haben.',
+  openFirst: 'Um Personen hinzuzufügen, drücken Sie zuerst dies.',
   letOnly: 'Nur die entfernen lassen, bei denen es steht',
   own: 'Wer ein Dokument hinzufügt, darf es auch entfernen und umbenennen.',
   allFollows: 'Alles weiter unten folgt dieser Liste.',
@@ -222,6 +235,8 @@ export const DE_OUTCOME = {
   at: (words, path) => `${words}, bei ${path}`,
   atInside: (words, path) => `${words}, bei Dokumenten in ${path}`,
   atFoldersIn: (words, path) => `${words}, bei Ordnern in ${path}`,
+  atSomeInside: (words, path) => `${words}, bei einigen Dokumenten in ${path}`,
+  atSomeFoldersIn: (words, path) => `${words}, bei einigen Ordnern in ${path}`,
   keepsAt: (words, path) => `${words}, bei ${path}, durch Zeilen dort`,
   withMore: (words) => `${words}, und hat noch einige Rechte mehr`,
   moreRights: 'einige weitere Berechtigungen',
@@ -258,6 +273,8 @@ export const DE_OUTCOME = {
   ownNew: 'Wer hier ein Dokument angelegt hat, darf es dann auch entfernen und umbenennen.',
   aboveUnknown: 'Sie dürfen nicht sehen, wer Zugriff auf den übergeordneten Ordner hat, daher ist '
     + 'nicht bekannt, wer ihn hier bekommt.',
+  wayUnread: (places) => `Sie dürfen nicht sehen, wer auf dem Weg hierher durch ${and(places)} `
+    + 'durchgehen darf, daher ist nicht bekannt, wer hierher gelangt.',
   apart: (names, places) => `Auf „Nur diese Personen“ gesetzt und ${
     places === 1 ? 'bleibt, wie es ist' : 'bleiben, wie sie sind'}: ${and(names)}.`,
   unreadThere: (names) => `Sie dürfen nicht sehen, wer Zugriff auf ${and(names)} hat: Was dort `

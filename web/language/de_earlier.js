@@ -72,6 +72,9 @@ export const DE_EARLIER = {
   // Wer mehr lesen könnte als in jener Nacht, käme es zurück, wie sein Ordner ist.
   opens: (names, many) => `Für ${and(names)} ${many === 1 ? 'war' : 'waren'} in jener Nacht ${
     objects(many)} davon nicht lesbar; wie der Ordner jetzt ist, doch.`,
+  opensByOwners: (names, many) => `Vielleicht ${many === 1 ? 'war' : 'waren'} für ${and(names)} in `
+    + `jener Nacht ${objects(many)} davon nicht lesbar, je nachdem, wem es gehörte; wie der Ordner `
+    + 'jetzt ist, doch.',
   perhapsOpens: (many) => `Sie sehen nicht, wer in jener Nacht ${objects(many)} davon lesen `
     + 'konnte: Wer den Ordner jetzt lesen darf, wird es können.',
   whoReads: 'Wer lesen darf, was zurückkommt',
@@ -96,8 +99,8 @@ export const DE_EARLIER = {
   goneSeveral: (amount) => `${amount} sind dann für alle weg.`,
   goneSeveralWith: (amount, inside) =>
     `${amount} und deren Inhalt, ${inside}, sind dann für alle weg.`,
-  backByOwners: (time) => `Wie es am ${moment(time)} war, kann es durch „Früher“ zurückholen, wem `
-    + 'es gehörte und wer den Ordner verwaltet; was später kam, ist verloren.',
-  backByMembers: (time) => `Wie es am ${moment(time)} war, kann es durch „Früher“ zurückholen, wer `
-    + 'in dem Ordner etwas hinzufügen darf; was später kam, ist verloren.',
+  backByOwners: (time) => `Was davon am ${moment(time)} da war, kann durch „Früher“ zurückholen, `
+    + 'wem es gehörte und wer den Ordner verwaltet; was später kam, ist verloren.',
+  backByMembers: (time) => `Was davon am ${moment(time)} da war, kann durch „Früher“ zurückholen, `
+    + 'wer in dem Ordner etwas hinzufügen darf; was später kam, ist verloren.',
 };

@@ -37,8 +37,9 @@ export const DE_FOLDER = {
   move: 'Verschieben',
   selected: (many) => `${number(many)} ausgewählt`,
   notShown: 'Der Inhalt dieses Ordners kann nicht gezeigt werden.',
-  empty: 'In diesem Ordner liegt noch nichts. Ziehen Sie Dokumente hierher, oder verwenden Sie '
-    + '„Hochladen“.',
+  empty: 'In diesem Ordner liegt noch nichts.',
+  addHere: 'Ziehen Sie Dokumente hierher, oder verwenden Sie „Hochladen“.',
+  addByThumb: 'Mit „+“ kommt etwas hinein.',
   nothingFits: 'Nichts in diesem Ordner hat diese Buchstaben im Namen.',
   caption: 'Der Inhalt dieses Ordners. Die Pfeiltasten gehen von Zeile zu Zeile.',
   kind: 'Art',
@@ -135,6 +136,7 @@ export const DE_MOVING = {
   renameFolder: 'Den Ordner umbenennen oder verschieben',
   renameDocument: 'Das Dokument umbenennen oder verschieben',
   moveIt: 'Verschieben',
+  renameIt: 'Umbenennen',
   several: (many) => `${objects(many)} verschieben`,
   moveHere: 'Hierher verschieben',
   allTheSame: 'Trotzdem verschieben',
@@ -160,6 +162,8 @@ export const DE_MOVING = {
   unknownPeople: 'Es ist nicht bekannt, wer dort darauf zugreifen kann',
   unknownAt: (place) => 'Es ist nicht bekannt, wer dort mehr tun könnte: Sie dürfen die Liste von '
     + `${place} nicht lesen.`,
+  unknownFrom: (place) => 'Es ist nicht bekannt, wer dadurch gewinnt oder verliert: Sie dürfen die '
+    + `Liste von ${place} nicht lesen.`,
   unknownOf: (names) => `Es ist nicht bekannt, wer dort mehr mit ${and(names)} tun könnte: Sie `
     + 'dürfen die Liste nicht lesen.',
   readersUnknown: 'Wer dort lesen darf, ist nicht bekannt: Sie dürfen die Liste nicht lesen.',

@@ -206,6 +206,8 @@ export const DE_WARNINGS = {
     + `${there(place)} gelangen: ${capital(folderAt(place))} lässt ${who} nicht durch (x).`,
   noPassageForAll: (place) => `Nicht alle können ${there(place)} gelangen: ${
     capital(folderAt(place))} lässt nicht alle durch (x).`,
+  noPassageForSome: (who, place, names) => `${capital(who)} kann nur zum Teil ${there(place)} `
+    + `gelangen: ${capital(folderAt(place))} lässt ${and(names)} nicht durch (x).`,
   passageUnread: (who, place) => `Es ist nicht bekannt, ob ${who} ${there(place)} gelangen `
     + `${verb([who], 'kann', 'können')}: Sie dürfen ${listOf(place)} nicht lesen.`,
   passageDepends: (who, place, depends) => `Es ist nicht bekannt, ob ${who} ${there(place)} `

@@ -15,8 +15,7 @@ export const DE_MOMENTS = {
   news: 'Was ist neu', newIn: (name) => ['Was ist neu in ', name], again: 'Neu laden',
   caption: 'Dokumente, die zuletzt geändert wurden, die neuesten zuerst.',
   nothingNew: 'Seit es Daten gibt, hat sich hier nichts geändert, was Sie lesen dürfen.',
-  explained: 'Die 50 zuletzt geänderten Dokumente von denen, die Sie in ihren Ordnern sehen und '
-    + 'lesen dürfen.',
+  explained: 'Höchstens die letzten 50 von denen, die Sie lesen dürfen.',
   noDates: 'Dieser Raum hält keine Daten von Änderungen fest.',
   notShown: 'Was sich geändert hat, kann nicht gezeigt werden.',
   thisYear: (time) => written(time, { day: 'numeric', month: 'short' }),

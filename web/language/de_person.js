@@ -33,8 +33,11 @@ export const DE_PERSON = {
   chooseDay: (name) => `Bis zu welchem Tag vertritt ${name}?`,
   standInSays: (name, other, day) => `Bis zum ${day} hat ${other}, was ${name} an den angekreuzten `
     + 'Stellen durch eine Zeile hat.',
+  onTheWay: (name, places) => `Auf dem Weg dorthin kann ${name} durch ${and(places)} hindurch.`,
   hasAlready: (name, places) => `${name} hat schon Zeilen bei ${and(places)}, die bleiben, wie sie `
     + 'sind.',
+  barred: (name, places, folder) => `${name} kommt nicht zu ${and(places)}: ${folder} erlaubt den `
+    + 'Durchgang nicht.',
   standsIn: (name, other, day, many) => `${other} vertritt ${name} an ${
     count(many, 'Stelle', 'Stellen')} bis zum ${day}, soweit der nächtliche Lauf es kann.`,
 };

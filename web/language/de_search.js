@@ -13,6 +13,8 @@ export const DE_SEARCH = {
   times: (many) => `${many.toLocaleString('de-DE')}-mal`,
   where: 'Stelle zeigen',
   more: 'Es gibt mehr: Öffnen Sie einen Ordner und suchen Sie dort, oder tippen Sie mehr Wörter.',
+  noneSoFar: 'In keinem durchsuchten Text stehen diese Wörter.',
+  notAll: 'Nicht alles konnte durchsucht werden: Öffnen Sie einen Ordner und suchen Sie dort.',
   unread: (many) => `Seither geändert und nicht durchsucht: ${count(many, 'Dokument',
     'Dokumente')}.`,
   without: (many) => `Ohne Text, etwa Scans: ${count(many, 'Dokument', 'Dokumente')}.`,

@@ -60,8 +60,13 @@ export const EN_ACCESS = {
   notByLevels: 'This can’t be said by levels. Change it under “Advanced”.',
   noDate: 'There can’t be an end on this day: it is over, or a name is too long.',
   partOfDate: 'The day isn’t complete. Complete it, or clear it for no end.',
+  notChosen: (typed) => `“${typed}” stands in the field and isn’t chosen: choose a name from the `
+    + 'list, or clear the field.',
+  addedToo: (who) => `${capital(who)} stood in the field, and is added now. Then press “Share” `
+    + 'once more.',
   lookedAgain: 'Some minutes went by, so what is further down is looked at again. Then press '
     + '“Share” once more.',
+  workedOut: 'It is being worked out who gains and who loses by this.',
   writeMail: 'Write a mail',
   share: 'Share',
   shareAllTheSame: 'Share all the same',
@@ -77,10 +82,18 @@ export const EN_ACCESS = {
   goneKeeping: (name) => `${capital(name)} is taken off the list. What a group or a folder above `
     + 'gives stays.',
   gone: (name) => `${capital(name)} is taken off the list.`,
+  // 'from' says where the level comes from that stays.
+  goneHere: (name, level, from) =>
+    `${capital(name)} is taken off this list. “${level}” stays, ${from}.`,
   removeAccessTo: (place) => `Remove access to ${place}?`,
   removeAccess: 'Remove access',
   removeAccessOf: (name) => `Remove access: ${name}`,
   removeAccessOfGroup: (name) => `Remove access: the group ${name}`,
+  takeOff: 'Take off this list',
+  takeOffOf: (place) => `Take off the list of ${place}?`,
+  takeLine: (name) => `Take off this list: ${name}`,
+  takeLineOfGroup: (name) => `Take off this list: the group ${name}`,
+  takeOffAllTheSame: 'Take off all the same',
   notThis: (name) => `Not ${name}`,
   removeAllTheSame: 'Remove access all the same',
   changeAccess: 'Change access?',
@@ -122,6 +135,7 @@ export const EN_ACCESS = {
     unsent: 'There are changes under “Advanced” that you haven’t sent yet.',
   },
   open: 'Whoever may add documents here may also remove and rename what others made.',
+  openFirst: 'To add people, first press this.',
   letOnly: 'Let only those remove who are said to',
   own: 'Whoever adds a document may also remove and rename it.',
   allFollows: 'Everything further down follows this list.',
@@ -201,6 +215,8 @@ export const EN_OUTCOME = {
   at: (words, path) => `${words}, at ${path}`,
   atInside: (words, path) => `${words}, with documents in ${path}`,
   atFoldersIn: (words, path) => `${words}, with folders in ${path}`,
+  atSomeInside: (words, path) => `${words}, with some documents in ${path}`,
+  atSomeFoldersIn: (words, path) => `${words}, with some folders in ${path}`,
   keepsAt: (words, path) => `${words}, at ${path}, by lines there`,
   withMore: (words) => `${words}, and has some more rights`,
   moreRights: 'some more rights',
@@ -233,6 +249,8 @@ export const EN_OUTCOME = {
   ownNew: 'Whoever made a document here may then also remove and rename it.',
   aboveUnknown:
     'You may not see who has access to the folder above, so it isn’t known who gets it here.',
+  wayUnread: (places) => `You may not see who may pass through ${and(places)} on the way here, so `
+    + 'it isn’t known who gets here.',
   apart: (names, places) => `Set to “Only these people”, and left as ${
     places === 1 ? 'it is' : 'they are'}: ${and(names)}.`,
   unreadThere: (names) =>

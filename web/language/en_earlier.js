@@ -64,12 +64,15 @@ export const EN_EARLIER = {
     : `${objects(many)} that are missing come back as yours.`),
   following: 'What comes back follows the access list of its folder.',
   there: (many) => (many === 1
-    ? '1 document is still there: replaced, what is in it now is lost, and its access stays.'
-    : `${count(many, 'document', 'documents')} are still there: replaced, what is in them now is `
-      + 'lost, and their access stays.'),
+    ? '1 document is still there: if it is replaced, what is in it now is lost, and its access '
+      + 'stays.'
+    : `${count(many, 'document', 'documents')} are still there: if they are replaced, what is in `
+      + 'them now is lost, and their access stays.'),
   // Who could read more than on that night, if it came back as its folder is.
   opens: (names, many) => `${capital(and(names))} couldn’t read ${objects(many)} of it that night, `
     + 'and may as the folder is now.',
+  opensByOwners: (names, many) => `Perhaps ${and(names)} couldn’t read ${objects(many)} of it that `
+    + 'night, which depends on whose it was, and may as the folder is now.',
   perhapsOpens: (many) => `You can’t see who could read ${objects(many)} of it that night: whoever `
     + 'may read the folder now will.',
   whoReads: 'Who may read what comes back',
@@ -95,8 +98,8 @@ export const EN_EARLIER = {
   goneSeveral: (amount) => `${amount} will be gone for everybody.`,
   goneSeveralWith: (amount, inside) =>
     `${amount} and what is in them, ${inside}, will be gone for everybody.`,
-  backByOwners: (time) => `As it was on ${moment(time)}, whoever owned it, and whoever manages the `
-    + 'folder, can get it back by “Earlier”; what came later is lost.',
-  backByMembers: (time) => `As it was on ${moment(time)}, whoever may add to the folder can get it `
-    + 'back by “Earlier”; what came later is lost.',
+  backByOwners: (time) => 'Whoever owned it, and whoever manages the folder, can get back by '
+    + `“Earlier” what of it was there on ${moment(time)}; what came later is lost.`,
+  backByMembers: (time) => 'Whoever may add to the folder can get back by “Earlier” what of it was '
+    + `there on ${moment(time)}; what came later is lost.`,
 };

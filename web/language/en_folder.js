@@ -34,7 +34,9 @@ export const EN_FOLDER = {
   move: 'Move',
   selected: (many) => `${number(many)} selected`,
   notShown: 'What is in this folder can’t be shown.',
-  empty: 'Nothing is in this folder yet. Drop documents here, or use “Upload”.',
+  empty: 'Nothing is in this folder yet.',
+  addHere: 'Drop documents here, or use “Upload”.',
+  addByThumb: 'Add something by “+”.',
   nothingFits: 'Nothing in this folder has these letters in its name.',
   caption: 'What is in this folder. The arrow keys go from row to row.',
   kind: 'Kind',
@@ -133,6 +135,7 @@ export const EN_MOVING = {
   renameFolder: 'Rename or move the folder',
   renameDocument: 'Rename or move the document',
   moveIt: 'Move it',
+  renameIt: 'Rename it',
   several: (many) => `Move ${objects(many)}`,
   moveHere: 'Move them here',
   allTheSame: 'Move all the same',
@@ -155,6 +158,8 @@ export const EN_MOVING = {
   unknownPeople: 'It isn’t known who can get at it there',
   unknownAt: (place) =>
     `It isn’t known who could do more there: you may not read the list of ${place}.`,
+  unknownFrom: (place) =>
+    `It isn’t known who gains or loses by this: you may not read the list of ${place}.`,
   unknownOf: (names) =>
     `It isn’t known who could do more with ${and(names)} there: you may not read the list.`,
   readersUnknown: 'Who may read there isn’t known: you may not read its list.',

@@ -199,6 +199,8 @@ export const EN_WARNINGS = {
     + `doesn’t let ${who} pass through (x).`,
   noPassageForAll: (place) => `Not everyone can get ${getThere(place)}: ${folderAt(place)} doesn’t `
     + 'let everyone pass through (x).',
+  noPassageForSome: (who, place, names) => `Not everyone in ${who} can get ${getThere(place)}: ${
+    folderAt(place)} doesn’t let ${and(names)} pass through (x).`,
   passageUnread: (who, place) => `It isn’t known whether ${who} can get ${getThere(place)}: you `
     + `may not read the list of ${folderAt(place)}.`,
   passageDepends: (who, place, depends) => `It isn’t known whether ${who} can get `

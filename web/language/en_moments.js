@@ -15,8 +15,7 @@ export const EN_MOMENTS = {
   news: 'What is new', newIn: (name) => ['What is new in ', name], again: 'Look again',
   caption: 'Documents that changed last, the newest first.',
   nothingNew: 'Nothing that you may read here has changed since dates are kept.',
-  explained: 'The 50 documents that changed last, of those that you may see in their folders and '
-    + 'read.',
+  explained: 'The latest 50 at most, of what you may read.',
   noDates: 'This room keeps no dates.',
   notShown: 'What changed can’t be shown.',
   thisYear: (time) => written(time, { day: 'numeric', month: 'short' }),

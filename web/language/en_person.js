@@ -32,8 +32,11 @@ export const EN_PERSON = {
   chooseDay: (name) => `Until which day does ${name} stand in?`,
   standInSays: (name, other, day) => `Until ${day} ${other} has what ${name} has by a line at the `
     + 'ticked places.',
+  onTheWay: (name, places) => `On the way there ${name} can pass through ${and(places)}.`,
   hasAlready: (name, places) => `${name} has lines already at ${and(places)}, which stay as they `
     + 'are.',
+  barred: (name, places, folder) => `${name} can’t get to ${and(places)}: ${folder} doesn’t let `
+    + 'them pass through.',
   standsIn: (name, other, day, many) => `${other} stands in for ${name} at ${
     count(many, 'place', 'places')} until ${day}, as far as the nightly run can.`,
 };

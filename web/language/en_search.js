@@ -14,6 +14,8 @@ export const EN_SEARCH = {
   times: (many) => count(many, 'time', 'times'),
   where: 'Show the place',
   more: 'There are more: open a folder and find there, or type more words.',
+  noneSoFar: 'No text that was looked through has these words.',
+  notAll: 'Not all could be looked through: open a folder and find there.',
   unread: (many) => `Changed since then and not looked through: ${documents(many)}.`,
   without: (many) => `Without text, such as scans: ${documents(many)}.`,
   rule: 'Each word has to stand in the text, also as a part of a longer word. Capitals and marks '

@@ -71,8 +71,13 @@ export const FR_ACCESS = {
   notByLevels: 'Cela ne peut pas se dire par niveaux. Changez-le sous « Avancé ».',
   noDate: 'Il ne peut pas y avoir de fin ce jour-là : il est passé, ou un nom est trop long.',
   partOfDate: 'Le jour est incomplet. Complétez-le, ou effacez-le pour qu’il n’y ait pas de fin.',
+  notChosen: (typed) => `« ${typed} » est dans le champ sans être choisi : choisissez un `
+    + 'nom dans la liste, ou videz le champ.',
+  addedToo: (who) => `${capital(who)} était dans le champ et est ajouté. Appuyez ensuite encore `
+    + 'une fois sur « Partager ».',
   lookedAgain: 'Quelques minutes ont passé, donc ce qui se trouve plus bas est examiné de nouveau. '
     + 'Appuyez ensuite encore une fois sur « Partager ».',
+  workedOut: 'On détermine qui y gagne et qui y perd.',
   writeMail: 'Écrire un message',
   share: 'Partager',
   shareAllTheSame: 'Partager quand même',
@@ -88,10 +93,17 @@ export const FR_ACCESS = {
   goneKeeping: (name) => `${capital(name)} est retiré de la liste. Ce que donne un groupe ou un `
     + 'dossier au-dessus reste.',
   gone: (name) => `${capital(name)} est retiré de la liste.`,
+  goneHere: (name, level, from) =>
+    `${capital(name)} est retiré de cette liste. « ${level} » reste, ${from}.`,
   removeAccessTo: (place) => `Supprimer l’accès à ${place} ?`,
   removeAccess: 'Supprimer l’accès',
   removeAccessOf: (name) => `Supprimer l’accès : ${name}`,
   removeAccessOfGroup: (name) => `Supprimer l’accès : le groupe ${name}`,
+  takeOff: 'Retirer de cette liste',
+  takeOffOf: (place) => `Retirer de la liste de ${place} ?`,
+  takeLine: (name) => `Retirer de cette liste : ${name}`,
+  takeLineOfGroup: (name) => `Retirer de cette liste : le groupe ${name}`,
+  takeOffAllTheSame: 'Retirer quand même',
   notThis: (name) => `Sans ${name}`,
   removeAllTheSame: 'Supprimer quand même l’accès',
   changeAccess: 'Changer l’accès ?',
@@ -134,6 +146,7 @@ export const FR_ACCESS = {
   },
   open: 'Quiconque peut ajouter des documents ici peut aussi supprimer et renommer ce que '
     + 'd’autres ont créé.',
+  openFirst: 'Pour ajouter des personnes, appuyez d’abord ici.',
   letOnly: 'Ne laisser supprimer que ceux dont cela est dit',
   own: 'Quiconque ajoute un document peut aussi le supprimer et le renommer.',
   allFollows: 'Tout ce qui se trouve plus bas suit cette liste.',
@@ -218,6 +231,8 @@ export const FR_OUTCOME = {
   at: (words, path) => `${words}, à ${path}`,
   atInside: (words, path) => `${words}, pour des documents dans ${path}`,
   atFoldersIn: (words, path) => `${words}, pour des dossiers dans ${path}`,
+  atSomeInside: (words, path) => `${words}, pour certains documents dans ${path}`,
+  atSomeFoldersIn: (words, path) => `${words}, pour certains dossiers dans ${path}`,
   keepsAt: (words, path) => `${words}, à ${path}, par des lignes qui s’y trouvent`,
   withMore: (words) => `${words}, et a quelques droits de plus`,
   moreRights: 'quelques droits de plus',
@@ -256,6 +271,8 @@ export const FR_OUTCOME = {
   ownNew: 'Quiconque a créé un document ici peut alors aussi le supprimer et le renommer.',
   aboveUnknown: 'Vous ne pouvez pas voir qui a accès au dossier au-dessus, donc on ne sait pas qui '
     + 'l’obtient ici.',
+  wayUnread: (places) => `Vous ne pouvez pas voir qui peut passer par ${and(places)} en chemin `
+    + 'vers ici, donc on ne sait pas qui y parvient.',
   apart: (names, places) => (places === 1
     ? `Réglé sur « Seulement ces personnes », et laissé tel quel : ${and(names)}.`
     : `Réglés sur « Seulement ces personnes », et laissés tels quels : ${and(names)}.`),

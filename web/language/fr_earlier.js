@@ -72,6 +72,9 @@ export const FR_EARLIER = {
   opens: (names, many) => `Pour ${and(names)}, ${objects(many)} de cela ${many === 1
     ? 'n’était pas lisible' : 'n’étaient pas lisibles'} cette nuit-là ; comme est le dossier `
     + 'maintenant, si.',
+  opensByOwners: (names, many) => `Pour ${and(names)}, ${objects(many)} de cela ${many === 1
+    ? 'n’était peut-être pas lisible' : 'n’étaient peut-être pas lisibles'} cette nuit-là, selon à `
+    + 'qui cela appartenait ; comme est le dossier maintenant, si.',
   perhapsOpens: (many) => `Vous ne voyez pas qui pouvait lire ${objects(many)} de cela cette `
     + 'nuit-là : qui peut lire le dossier maintenant le pourra.',
   whoReads: 'Qui peut lire ce qui revient',
@@ -97,9 +100,9 @@ export const FR_EARLIER = {
   goneSeveral: (amount) => `${amount} disparaîtront pour tout le monde.`,
   goneSeveralWith: (amount, inside) =>
     `${amount} et leur contenu, ${inside}, disparaîtront pour tout le monde.`,
-  backByOwners: (time) => `Tel que c’était le ${moment(time)}, le propriétaire et les `
+  backByOwners: (time) => `Ce qui en était là le ${moment(time)}, le propriétaire et les `
     + 'gestionnaires du dossier peuvent le récupérer par « Avant » ; ce qui est venu plus tard est '
     + 'perdu.',
-  backByMembers: (time) => `Tel que c’était le ${moment(time)}, ceux qui peuvent ajouter au `
+  backByMembers: (time) => `Ce qui en était là le ${moment(time)}, ceux qui peuvent ajouter au `
     + 'dossier peuvent le récupérer par « Avant » ; ce qui est venu plus tard est perdu.',
 };

@@ -36,8 +36,9 @@ export const FR_FOLDER = {
   move: 'Déplacer',
   selected: (many) => count(many, 'sélectionné', 'sélectionnés'),
   notShown: 'Le contenu de ce dossier ne peut pas être affiché.',
-  empty: 'Il n’y a encore rien dans ce dossier. Déposez des documents ici, ou utilisez '
-    + '« Envoyer ».',
+  empty: 'Il n’y a encore rien dans ce dossier.',
+  addHere: 'Déposez des documents ici, ou utilisez « Envoyer ».',
+  addByThumb: 'Ajoutez quelque chose par « + ».',
   nothingFits: 'Rien dans ce dossier n’a ces lettres dans son nom.',
   caption: 'Le contenu de ce dossier. Les touches fléchées vont de ligne en ligne.',
   kind: 'Type',
@@ -137,6 +138,7 @@ export const FR_MOVING = {
   renameFolder: 'Renommer ou déplacer le dossier',
   renameDocument: 'Renommer ou déplacer le document',
   moveIt: 'Déplacer',
+  renameIt: 'Renommer',
   several: (many) => `Déplacer ${objects(many)}`,
   moveHere: 'Déplacer ici',
   allTheSame: 'Déplacer quand même',
@@ -163,6 +165,8 @@ export const FR_MOVING = {
   unknownPeople: 'On ne sait pas qui peut y accéder là-bas',
   unknownAt: (place) => 'On ne sait pas qui pourrait y faire plus : vous ne pouvez pas lire la '
     + `liste de ${place}.`,
+  unknownFrom: (place) => 'On ne sait pas qui y gagne ou y perd : vous ne pouvez pas lire la liste '
+    + `de ${place}.`,
   unknownOf: (names) => `On ne sait pas qui pourrait faire plus avec ${and(names)} là-bas : vous `
     + 'ne pouvez pas lire la liste.',
   readersUnknown: 'On ne sait pas qui peut lire là-bas : vous ne pouvez pas lire la liste.',

@@ -203,6 +203,8 @@ export const FR_WARNINGS = {
     + `${folderAt(place)} ne laisse pas passer ${who} (x).`,
   noPassageForAll: (place) => `Tout le monde ne peut pas parvenir ${there(place)} : `
     + `${folderAt(place)} ne laisse pas passer tout le monde (x).`,
+  noPassageForSome: (who, place, names) => `Dans ${who}, tout le monde ne peut pas parvenir ${
+    there(place)} : ${folderAt(place)} ne laisse pas passer ${and(names)} (x).`,
   passageUnread: (who, place) => `On ne sait pas si ${who} peut parvenir ${there(place)} : vous ne `
     + `pouvez pas lire la liste de ${folderAt(place)}.`,
   passageDepends: (who, place, depends) => `On ne sait pas si ${who} peut parvenir `

@@ -15,8 +15,7 @@ export const FR_MOMENTS = {
   news: 'Nouveautés', newIn: (name) => ['Nouveautés dans ', name], again: 'Actualiser',
   caption: 'Les documents modifiés en dernier, du plus récent au plus ancien.',
   nothingNew: 'Rien de ce que vous pouvez lire ici n’a changé depuis que les dates sont notées.',
-  explained: 'Les 50 derniers documents modifiés parmi ceux que vous pouvez voir dans leurs '
-    + 'dossiers et lire.',
+  explained: 'Les 50 derniers au plus que vous pouvez lire.',
   noDates: 'Cette salle ne note pas de dates.',
   notShown: 'Ce qui a changé ne peut pas être affiché.',
   thisYear: (time) => written(time, { day: 'numeric', month: 'short' }),

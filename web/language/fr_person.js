@@ -32,8 +32,11 @@ export const FR_PERSON = {
   chooseDay: (name) => `Jusqu’à quel jour ${name} remplace-t-il ou elle ?`,
   standInSays: (name, other, day) => `Jusqu’au ${day}, ${other} a ce que ${name} a par une ligne `
     + 'aux endroits cochés.',
+  onTheWay: (name, places) => `En chemin, ${name} peut passer par ${and(places)}.`,
   hasAlready: (name, places) => `${name} a déjà des lignes à ${and(places)}, qui restent telles `
     + 'quelles.',
+  barred: (name, places, folder) => `${name} ne peut pas parvenir à ${and(places)} : ${folder} ne `
+    + 'laisse pas passer.',
   standsIn: (name, other, day, many) => `${other} remplace ${name} à ${
     count(many, 'endroit', 'endroits')} jusqu’au ${day}, autant que la tâche de nuit le peut.`,
 };

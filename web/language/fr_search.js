@@ -14,6 +14,8 @@ export const FR_SEARCH = {
   times: (many) => `${many.toLocaleString('fr-FR')} fois`,
   where: 'Montrer l’endroit',
   more: 'Il y en a d’autres : ouvrez un dossier et cherchez-y, ou tapez d’autres mots.',
+  noneSoFar: 'Aucun des textes parcourus ne contient ces mots.',
+  notAll: 'Tout n’a pas pu être parcouru : ouvrez un dossier et cherchez-y.',
   unread: (many) => `Modifiés depuis et non parcourus : ${documents(many)}.`,
   without: (many) => `Sans texte, comme des numérisations : ${documents(many)}.`,
   rule: 'Chaque mot doit se trouver dans le texte, même dans un mot plus long. Majuscules et '

@@ -1,8 +1,10 @@
 // The requests of docs/http.md and their replies, as promises. Nothing here draws the page.
 
+import { target } from './addresses.js';
 import { heard } from './clock.js';
 import { hearMost, withoutParts } from './large.js';
 import { untilAnswered } from './retry.js';
+import { replyTo } from './sent_first.js';
 
 // The status of a file that this computer can't read any more.
 export const UNREADABLE = -1;
@@ -16,12 +18,6 @@ export class Refusal extends Error {
     super(`status ${status}`);
     Object.assign(this, { status, body, asked });
   }
-}
-
-// A path is '/' alone, or a '/' before each name. In a target each name is percent-encoded. Targets
-// are relative, so a room is asked below the address at which its page is served.
-export function target(word, path) {
-  return `${word}/${path.split('/').slice(1).map(encodeURIComponent).join('/')}`;
 }
 
 export function namesOf(path) {
@@ -53,7 +49,7 @@ async function askOnce(method, word, path, body, query = '') {
   const where = word === 'me' ? 'me' : target(word, path) + query;
   let reply;
   try {
-    reply = await fetch(where, { method, body, cache: 'no-store' });
+    reply = await replyTo(where, { method, body, cache: 'no-store' });
   } catch {
     throw new Refusal(0, null, asked);
   }

@@ -1,24 +1,25 @@
 // The door beside the room, which answers in one request what would take thousands (docs/door.md).
 
-import { Refusal, STOPPED, fromDoor, jsonOrNull, namesOf, putOnce, target } from './api.js';
-import { DOCUMENT_OF_ROOM } from './large.js';
+import { target } from './addresses.js';
+import { Refusal, STOPPED, fromDoor, jsonOrNull, namesOf } from './api.js';
 import { untilAnswered } from './retry.js';
+import { replyTo } from './sent_first.js';
 
 // What the room would be asked for, so that a refusal is told in the same words.
 const ROOM_ROUTES = {
   below: 'folder', find: 'folder', goes: 'folder', latest: 'folder', left: 'object', pages: 'doc',
-  places: 'doc', remove: 'object', search: 'folder', zip: 'folder',
+  pieces: 'doc', remove: 'object', search: 'folder', upload: 'doc', zip: 'folder',
 };
 
 // Sends until the door answers, for half a minute.
-const untilDoorAnswers = (send) => untilAnswered(() => send().catch(fromDoor));
+export const untilDoorAnswers = (send) => untilAnswered(() => send().catch(fromDoor));
 
 // The reply itself, with what was asked for, and what ends it if it is cut off. 'given' is what
 // fetch takes.
 async function send(method, word, path, query, given) {
   const asked = { method, word: ROOM_ROUTES[word] ?? word, path };
   const lost = () => { throw new Refusal(given.signal?.aborted ? STOPPED : 0, null, asked); };
-  const reply = await fetch(target(`door/${word}`, path) + query,
+  const reply = await replyTo(target(`door/${word}`, path) + query,
     { method, cache: 'no-store', ...given }).catch(lost);
   if (!reply.ok) {
     throw new Refusal(reply.status, jsonOrNull(await reply.text().catch(() => '')), asked);
@@ -27,7 +28,7 @@ async function send(method, word, path, query, given) {
 }
 
 // The reply in a form that fetch has, with its tag.
-async function ask(method, word, path, form, query = '', given = {}) {
+export async function ask(method, word, path, form, query = '', given = {}) {
   const { reply, lost } = await send(method, word, path, query, given);
   return { told: reply.status === 204 ? null : await reply[form]().catch(lost),
     tag: reply.headers.get('ETag'), pages: Number(reply.headers.get('Room-Pages')) };
@@ -179,16 +180,6 @@ export const changersOf = (word, path) =>
 // The tag of a document alone.
 export const tagAt = (path) => untilDoorAnswers(() => ask('HEAD', 'doc', path, 'text'))
   .then(({ tag }) => tag);
-
-// Sent only if 'fields', a condition, hold; otherwise it is refused with 412. What can't take so
-// many bytes is refused before they are sent. Returns {made, tag}.
-export async function putDocument(path, bytes, fields, onProgress = () => {}, signal = null) {
-  if (bytes.size > DOCUMENT_OF_ROOM) {
-    await untilDoorAnswers(() => ask('POST', 'places', path, 'text', `?${bytes.size}`,
-      { headers: fields }));
-  }
-  return untilDoorAnswers(() => putOnce('door/doc', path, bytes, fields, onProgress, signal));
-}
 
 // Takes away what an upload left that was broken off.
 export const removeLeft = (path) =>

@@ -1,8 +1,10 @@
 // Earlier nights of the room (docs/earlier.md): what was there, as far as that night's list and
 // today's let the caller see it.
 
-import { Refusal, jsonOrNull, take, target } from './api.js';
+import { target } from './addresses.js';
+import { Refusal, jsonOrNull, take } from './api.js';
 import { withoutParts } from './large.js';
+import { replyTo } from './sent_first.js';
 
 // Whether the room shows any: null as long as nobody asked.
 let isShown = null;
@@ -11,7 +13,7 @@ export const hasNights = () => isShown === true;
 // Asks once in a visit. Nobody is woken up by that.
 export async function knowNights() {
   if (isShown !== null) return;
-  const reply = await fetch('earlier/', { cache: 'no-store' }).catch(() => null);
+  const reply = await replyTo('earlier/').catch(() => null);
   if (reply && reply.status < 500) isShown = reply.status === 204;
 }
 

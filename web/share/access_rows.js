@@ -3,10 +3,10 @@
 import { texts } from '../language/language.js';
 import { nameOf } from '../net/api.js';
 import { today } from '../net/clock.js';
-import { offered, select } from './add_person.js';
+import { addedWords, offered, select } from './add_person.js';
 import { button, element, icon, nameText } from '../ui/dom.js';
 import { confirm, deliver } from './confirm.js';
-import { RANKS, keyOf, letRemove, withLevel } from '../acl/levels.js';
+import { RANKS, keyOf, letRemove, readLevels, withLevel } from '../acl/levels.js';
 import { linkTo } from '../ui/links.js';
 import { endWords } from '../acl/end_dates.js';
 import { isInherited } from '../acl/entries.js';
@@ -29,13 +29,30 @@ function sourceOf(entry, folders) {
   return null;
 }
 
-function sourceWords({ list, folders }, row) {
+// Where a line from above comes from. 'shown' makes the folder that is named.
+function sourceWords({ list, folders }, row, shown) {
   if (!row.inherited) return [];
   if (list.protect) return [texts.access.keptFromAbove];
   const path = sourceOf(row.entries[0], folders);
-  if (path === null) return [texts.access.fromFolderAbove];
-  const name = path === '/' ? texts.places.all : nameText(nameOf(path));
-  return texts.access.from(element('a', { href: linkTo(path, 'access') }, name));
+  return path === null ? [texts.access.fromFolderAbove] : texts.access.from(shown(path));
+}
+
+const linked = (path) => element('a', { href: linkTo(path, 'access') },
+  path === '/' ? texts.places.all : nameText(nameOf(path)));
+
+// Whether the folder above gives the same one something too, which stays when the line goes.
+const isAlsoAbove = ({ model }, row) =>
+  model.rows.some((one) => one.inherited && one.key === row.key);
+
+// What that is in the list without the line.
+function staysWords(state, row, next) {
+  const [kept] = readLevels(next, state.kind).rows
+    .filter((one) => one.inherited && one.key === row.key)
+    .sort((one, other) => rank(other.level) - rank(one.level));
+  const words = kept.level === 'custom' ? customWords(kept, state.kind)
+    : barredLevel(kept, state.kind);
+  return texts.access.goneHere(nameIn(state, row), words,
+    sourceWords(state, kept, placeName).join(''));
 }
 
 // What is said of a line that is taken away.
@@ -44,6 +61,35 @@ function goneWords(name, row, changes) {
   const change = changes.find(({ user }) => user === row.who);
   const stays = change === undefined || change.to !== 'none';
   return (stays ? texts.access.goneKeeping : texts.access.gone)(name);
+}
+
+// What is asked before a line goes.
+function goingWords(state, row, next) {
+  const place = placeName(state.path);
+  return isAlsoAbove(state, row)
+    ? { title: texts.access.takeOffOf(place), words: texts.access.takeOff,
+      allTheSame: texts.access.takeOffAllTheSame, sentence: () => staysWords(state, row, next) }
+    : { title: texts.access.removeAccessTo(place), words: texts.access.removeAccess,
+      allTheSame: texts.access.removeAllTheSame,
+      sentence: ({ changes }) => goneWords(nameIn(state, row), row, changes) };
+}
+
+// What is said once it is done.
+function doneWords(state, row, value, next) {
+  const name = nameIn(state, row);
+  if (value !== 'gone') {
+    return addedWords(state, [row], value, texts.access.nowCan, row.until ?? '');
+  }
+  if (isAlsoAbove(state, row)) return staysWords(state, row, next);
+  return (row.isGroup ? texts.access.goneGroup : texts.access.gone)(name);
+}
+
+// The menu of the line below or above one that goes.
+function besideIt(label) {
+  const all = [...document.querySelectorAll('.holders select')];
+  const at = all.findIndex((one) => one.matches(label));
+  const beside = all[at + 1] ?? all[at - 1];
+  return beside ? `[aria-label="${CSS.escape(beside.getAttribute('aria-label'))}"]` : label;
 }
 
 // What is picked in the menu of a line. 'back' shows the line as it was.
@@ -60,27 +106,33 @@ async function change(state, row, value, again, back) {
     return;
   }
   const subject = { who: row.who, isGroup: row.isGroup, name, isLeaving: isGone, level: value };
-  const line = `[aria-label="${CSS.escape(labelOf(state, row))}"]`;
+  const label = `[aria-label="${CSS.escape(labelOf(state, row))}"]`;
+  const line = isGone ? besideIt(label) : label;
   const done = await confirm(state, () => next, isGone
-    ? { title: texts.access.removeAccessTo(placeName(path)), words: texts.access.removeAccess,
-      allTheSame: texts.access.removeAllTheSame, subject,
-      sentence: ({ changes }) => goneWords(name, row, changes) }
+    ? { ...goingWords(state, row, next), subject }
     : { title: texts.access.changeAccess, words: texts.access.changeIt,
       allTheSame: texts.access.changeAllTheSame, subject, sentence: () => texts.access.goes(
         placeName(path), name, levelWords(row.level, kind), levelWords(value, kind)) });
-  if (done) await again(line);
-  else back();
+  if (!done) {
+    back();
+    return;
+  }
+  await again(line);
+  if (done === 'sent') tell('good', doneWords(state, row, value, next));
 }
+
+const goneLabel = (state, row) =>
+  (isAlsoAbove(state, row) ? texts.access.takeOff : texts.access.removeAccess);
 
 // What the menu of a line also does, in one press.
 function goneControl(state, row, again) {
-  const hasBoth = state.model.rows.some((one) => one.inherited && one.key === row.key);
-  if (!state.edits || row.inherited || row.level === 'custom' || hasBoth) return null;
+  if (!state.edits || row.inherited || row.level === 'custom') return null;
   const gone = () => change(state, row, 'gone', again, () => {}).catch(tellFault);
-  const label = (row.isGroup ? texts.access.removeAccessOfGroup : texts.access.removeAccessOf)(
-    spokenName(state.known, row));
-  return button(icon('cross'), gone, { class: 'small plain gone', 'aria-label': label,
-    title: texts.access.removeAccess });
+  const [ofOne, ofGroup] = isAlsoAbove(state, row)
+    ? [texts.access.takeLine, texts.access.takeLineOfGroup]
+    : [texts.access.removeAccessOf, texts.access.removeAccessOfGroup];
+  return button(icon('cross'), gone, { class: 'small plain gone', title: goneLabel(state, row),
+    'aria-label': (row.isGroup ? ofGroup : ofOne)(spokenName(state.known, row)) });
 }
 
 const labelOf = ({ known }, row) =>
@@ -90,19 +142,21 @@ const labelOf = ({ known }, row) =>
 const barredWords = ({ entries }) => (entries.some(({ flags, mask }) => flags.includes('f')
   && mask.includes('d')) ? texts.access.removesNoFolders : texts.access.removesNothing);
 
-function levelControl(state, row, again) {
-  const { kind, edits, model } = state;
+function barredLevel(row, kind) {
   const words = levelWords(row.level, kind);
-  const plain = element('span', { class: 'level' },
-    row.barred ? barredWords(row)(words) : words);
+  return row.barred ? barredWords(row)(words) : words;
+}
+
+function levelControl(state, row, again) {
+  const { kind, edits } = state;
+  const plain = element('span', { class: 'level' }, barredLevel(row, kind));
   if (!edits || row.inherited || row.level === 'custom') return plain;
-  const hasBoth = model.rows.some((one) => one.inherited && one.key === row.key);
   // What was carried here from above is changed there.
-  if (hasBoth && ['manage', 'remove'].includes(row.level)) return plain;
+  if (isAlsoAbove(state, row) && isHead(row)) return plain;
   const levels = row.level === 'pass' ? ['pass'] : [...new Set([...offered(kind), row.level])];
   const options = levels.sort((one, other) => rank(one) - rank(other))
     .map((one) => [one, levelWords(one, kind)]);
-  const all = hasBoth ? options : [...options, ['gone', texts.access.removeAccess]];
+  const all = [...options, ['gone', goneLabel(state, row)]];
   return select(labelOf(state, row), all, row.level, (value, made) => {
     const back = () => { made.value = row.level; };
     change(state, row, value, again, back).catch((fault) => {
@@ -129,20 +183,47 @@ function nameIn({ known }, { who, isGroup }) {
 }
 
 // A last day changes nobody's rights now, so nothing is asked.
-async function setEnd(state, row, input, again) {
+async function setEnd(state, row, { input, isLeft }, again) {
   const day = input.value;
   const until = day === '' ? null : { day, asker: state.me };
   const next = input.validity.badInput || (day !== '' && day < today()) ? null
     : withLevel(state.list, state.kind, row, row.level, false, until);
   if (next === null) {
     tell('bad', input.validity.badInput ? texts.access.partOfDate : texts.access.noDate);
-    input.focus();
+    if (!isLeft) input.focus();
   } else if (await deliver(state, next, { ways: () => [], left: () => [] }) === 'sent') {
     await again(`[aria-label="${CSS.escape(labelOf(state, row))}"]`);
     const name = nameIn(state, row);
     tell('good', day === '' ? texts.access.hasNoEnd(name)
       : texts.access.ends(name, endWords(day)));
   } else await again();
+}
+
+// A field for the last day. Another day counts as soon as the focus goes elsewhere, and Escape
+// leaves all as it was.
+function endForm({ until }, name, set, close) {
+  let isSet = false;
+  const input = element('input', { type: 'date', value: until ?? '', 'aria-label': name });
+  const isOther = () => input.value !== (until ?? '') || input.validity.badInput;
+  const send = async (isLeft) => {
+    if (isSet) return;
+    isSet = true;
+    await set({ input, isLeft }).catch(tellFault);
+    isSet = false;
+  };
+  const form = element('form', { class: 'until', onsubmit: (event) => {
+    event.preventDefault();
+    send(false);
+  } }, input, element('button', { type: 'submit', class: 'small' }, texts.access.set));
+  form.addEventListener('focusout', ({ relatedTarget }) => {
+    if (!form.contains(relatedTarget) && form.isConnected && isOther()) send(true);
+  });
+  form.addEventListener('keydown', ({ key }) => {
+    if (key !== 'Escape') return;
+    isSet = true;
+    close();
+  });
+  return form;
 }
 
 // The last day of a line, which a press of it changes.
@@ -154,18 +235,18 @@ function endControl(state, row, again) {
   const name = (row.isGroup ? texts.access.lastDayOfGroup : texts.access.lastDay)(
     spokenName(state.known, row));
   const open = () => {
-    const input = element('input', { type: 'date', value: row.until ?? '', 'aria-label': name });
-    const set = (event) => {
-      event.preventDefault();
-      setEnd(state, row, input, again).catch(tellFault);
-    };
-    shown.replaceChildren(element('form', { class: 'until', onsubmit: set }, input,
-      element('button', { type: 'submit', class: 'small' }, texts.access.set)));
-    input.focus();
+    const form = endForm(row, name, (day) => setEnd(state, row, day, again), close);
+    shown.replaceChildren(form);
+    form.querySelector('input').focus();
   };
   const now = row.until ? untilWords(row) : texts.access.noEnd;
-  const shown = element('div', {}, button(now, open,
-    { class: 'small plain ends', 'aria-label': `${name}: ${now}` }));
+  const press = button(now, open,
+    { class: 'small plain ends', 'aria-label': `${name}: ${now}` });
+  const close = () => {
+    shown.replaceChildren(press);
+    press.focus();
+  };
+  const shown = element('div', {}, press);
   return shown;
 }
 
@@ -174,7 +255,7 @@ function line(state, row, again) {
   return element('li', { class: row.inherited ? 'from-above' : null },
     mark(known, row.who, row.isGroup),
     element('div', { class: 'name-of' }, nameText(whoName(known, row.who, row.isGroup)),
-      below(known, row, me, sourceWords(state, row)),
+      below(known, row, me, sourceWords(state, row, linked)),
       endControl(state, row, again), barredControl(state, row, again),
       row.level === 'custom' ? element('p', { class: 'hint' }, customWords(row, kind)) : null),
     levelControl(state, row, again), goneControl(state, row, again));

@@ -50,10 +50,12 @@ function changeWords(change, kind) {
 
 export const shownName = (known) => (caller) => partyName(caller, known);
 
-// What is imagined in a folder is whatever is there.
-function atWords(words, path, kind) {
+// What is imagined in a folder is whatever is there; what follows it and differs is some of that.
+function atWords(words, { path, kind, isSome }) {
   const [folder, ...rest] = path.split(`/${UNNAMED}`);
-  const inside = kind === 'folder' ? texts.outcome.atFoldersIn : texts.outcome.atInside;
+  const ofFolders = isSome ? texts.outcome.atSomeFoldersIn : texts.outcome.atFoldersIn;
+  const ofDocuments = isSome ? texts.outcome.atSomeInside : texts.outcome.atInside;
+  const inside = kind === 'folder' ? ofFolders : ofDocuments;
   const say = rest.length === 0 ? texts.outcome.at : inside;
   return say(words, isolated(folder === '' ? '/' : folder));
 }
@@ -78,11 +80,11 @@ function headOf({ more, owns }) {
   return more ? gain : loss;
 }
 
-// The path is null for the object itself.
-const changeLines = (changes, kind, known, path = null) => joinedLines(changes.map((caller) => {
+// The place is null for the object itself.
+const changeLines = (changes, kind, known, place = null) => joinedLines(changes.map((caller) => {
   const words = changeWords(caller, kind);
   return { look: caller.more ? 'gain' : 'loss', head: headOf(caller), caller,
-    words: path === null ? words : atWords(words, path, kind) };
+    words: place === null ? words : atWords(words, place) };
 }), known);
 
 // What those who lose something keep further down, by lines that stand there.
@@ -99,9 +101,12 @@ function keptLines({ path, kind, kept }, known) {
 // 'rest' are further lines, which are shown if somebody asks for them.
 const plain = (look, head, words, rest = []) => ({ look, head, words, names: [], rest });
 
+const isUnchanged = ({ changes, below, owners, losers, perhaps }) => changes.length + below.length
+  + owners.length + losers.length + Object.values(perhaps).flat().length === 0;
+
 // Who gains and who loses: [{look, head, words, names}].
 export function saidLines({ known, kind }, outcome, subject) {
-  const { changes, gains, losses, below, kept, owners, losers, perhaps } = outcome;
+  const { gains, losses, below, kept, losers, perhaps } = outcome;
   // Of what wasn't looked at, or isn't known, nothing is said.
   const isAll = outcome.isAll && outcome.isKnown;
   // What the sentence above says already isn't said twice.
@@ -110,13 +115,12 @@ export function saidLines({ known, kind }, outcome, subject) {
   const isSaid = gains.every((one) => isNamed(one) && one.to === subject.level
     && beyondLevel(one).length === 0 && !one.isBeyond);
   const deeper = (those) => those.flatMap((one) =>
-    changeLines(one.changes, one.kind, known, one.path));
+    changeLines(one.changes, one.kind, known, one));
   const stays = (those) => those.flatMap((one) => keptLines(one, known));
   const [more, moreKept] = [below, kept].map((those) => those.length - MOST_PLACES);
-  const isNone = changes.length + below.length + owners.length + losers.length
-    + perhaps.changes.length + perhaps.below.length === 0;
+  const isNone = isUnchanged(outcome);
   const isHarmless = losses.length === 0 && losers.length === 0 && perhaps.below.length === 0
-    && perhaps.changes.every(({ more }) => more)
+    && perhaps.losers.length === 0 && perhaps.changes.every(({ more }) => more)
     && below.every((one) => one.changes.every((each) => each.more));
   return [
     ...isSaid ? [] : changeLines(gains, kind, known), ...changeLines(losses, kind, known),
@@ -133,12 +137,24 @@ export function saidLines({ known, kind }, outcome, subject) {
 
 // What isn't sure, since it isn't known who is in which groups.
 export function perhapsLines({ known, kind }, { perhaps }) {
+  const { gettingOwn, losingOwn } = texts.outcome;
+  const own = (look, say) => (one) => plain(look, '', say(shownName(known)(one), one.count));
   return [...changeLines(perhaps.changes, kind, known),
-    ...perhaps.below.flatMap((one) => changeLines(one.changes, one.kind, known, one.path))];
+    ...perhaps.below.flatMap((one) => changeLines(one.changes, one.kind, known, one)),
+    ...perhaps.owners.map(own('gain', gettingOwn)), ...perhaps.losers.map(own('loss', losingOwn))];
+}
+
+// That lists on the way can't be read: whom these bar gets nothing here. Whoever doesn't pass the
+// top gets nowhere, so of that it isn't told each time. Of the last one 'aboveUnknown' says it.
+export function wayWords({ folders }, isKnown = true) {
+  const unread = folders.filter(({ path, list }, at) => list === null && path !== '/'
+    && (isKnown || at < folders.length - 1)).map(({ path }) => placeName(path));
+  return unread.length === 0 ? null : texts.outcome.wayUnread(shortened(unread, FEW));
 }
 
 // What isn't known, and what stays as it is.
-export function hintsOf({ known }, outcome) {
+export function hintsOf(state, outcome) {
+  const { known } = state;
   const { hasGroups, isKnown, isOwnNew, apart, unread, changes, below, owners, losers,
     asked } = outcome;
   const names = (paths) =>
@@ -154,6 +170,7 @@ export function hintsOf({ known }, outcome) {
     lessWords(asked),
     isUnowned && texts.outcome.notOwned,
     !isKnown && texts.outcome.aboveUnknown,
+    !isUnchanged(outcome) && wayWords(state, isKnown),
     changes.length > 0 && apart.length > 0
       && texts.outcome.apart(names(apart.map(({ path }) => path)), apart.length),
     unread.length > 0 && texts.outcome.unreadThere(unreadNames(unread, FEW)),

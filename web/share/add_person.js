@@ -13,7 +13,7 @@ import { linkTo } from '../ui/links.js';
 import { tell, tellFault } from '../ui/messages.js';
 import { followOutcome } from './consequences.js';
 import { fullName } from '../net/directory.js';
-import { picker } from '../ui/picker.js';
+import { leftIn, picker } from '../ui/picker.js';
 import { levelWords, placeName } from './access_words.js';
 import { below, mark } from '../ui/names.js';
 import { inSentence, membersOf, whoName } from '../text/who_is.js';
@@ -21,6 +21,8 @@ import { isolated } from '../text/words.js';
 import { isListFault, isUnsaid } from '../text/would_words.js';
 
 const MOST_MEMBERS = 8;
+// In milliseconds.
+const A_MOMENT = 500;
 
 // What a press beside a name in the list gives at once.
 const QUICK = 'change';
@@ -35,7 +37,7 @@ export function select(label, options, value, onPick) {
 }
 
 // Who can do what, in one of the two sentences of it. 'day' is the last one, or ''.
-function addedWords({ known, kind, path }, subjects, level, say, day) {
+export function addedWords({ known, kind, path }, subjects, level, say, day) {
   const all = subjects.map((subject) => {
     const members = subject.isGroup ? membersOf(known, subject.who) : null;
     return { who: inSentence(known, subject), many: subject.isGroup ? members?.length ?? null : 1,
@@ -80,11 +82,12 @@ function subjectOf(choice, known) {
 // Those who were picked, the level that they get, and what comes of it. Each drawing has a number,
 // so that a slow one isn't shown for a later level.
 class Picked {
-  constructor(state, { level = 'read', day = '' }, again, onLess) {
+  constructor(state, { level = 'read', day = '' }, again, { onLess, takeLeft }) {
     this.state = state;
     this.choices = [];
     this.level = level;
     this.onLess = onLess;
+    this.takeLeft = takeLeft;
     this.looks = 0;
     this.names = element('ul', { class: 'chosen-ones' });
     this.unsure = element('div', {});
@@ -162,10 +165,13 @@ class Picked {
     }
     const isWanted = () => look === this.looks && this.body.isConnected;
     this.told.subject = this.subject;
+    this.isShown = false;
+    setTimeout(() => this.sayWaiting(isWanted), A_MOMENT);
     await followOutcome(state, next, this.subject, isWanted, (outcome, isBusy) => {
       this.show(next, outcome.lock === null);
       this.told.draw(outcome, isBusy);
     }).catch((fault) => {
+      this.isShown = true;
       if (!isUnsaid(fault)) tellFault(fault);
       else if (isWanted()) {
         this.show(next, isListFault(fault));
@@ -174,8 +180,16 @@ class Picked {
     });
   }
 
+  // Why 'Share' is grey, where it is so for longer.
+  sayWaiting(isWanted) {
+    if (!isWanted() || this.isShown) return;
+    this.said.textContent = texts.access.workedOut;
+    this.hint.textContent = '';
+  }
+
   show(next, isPlain) {
     const { state, choices, level } = this;
+    this.isShown = true;
     this.sent = next;
     this.said.textContent = addedWords(state, choices, level, texts.access.thenCan,
       this.until.value);
@@ -191,6 +205,7 @@ class Picked {
       this.until.focus();
       return;
     }
+    if (this.takeLeft((words) => { this.said.textContent = words; })) return;
     this.share.disabled = true;
     const { state, choices, level } = this;
     const day = this.until.value;
@@ -214,6 +229,21 @@ class Picked {
   }
 }
 
+// A name that stands in the field yet isn't left out without a word. Returns whether one does.
+function takeLeft(field, known, { taken, take, say }) {
+  const { typed, only } = leftIn(field, known, taken);
+  if (typed === '') return false;
+  const input = field.querySelector('input');
+  if (only === null) say(texts.access.notChosen(isolated(typed)));
+  else {
+    input.value = '';
+    take(only);
+    tell('good', texts.access.addedToo(inSentence(known, only)));
+  }
+  input.focus();
+  return true;
+}
+
 // The field for names, and below it those who were picked. 'pick' are some who were picked before:
 // {choices, level, day}, or null.
 export function adder(state, again, pick) {
@@ -234,7 +264,8 @@ export function adder(state, again, pick) {
   };
   const take = (choice, given = {}) => {
     if (picked === null) {
-      picked = new Picked(state, given, again, less);
+      picked = new Picked(state, given, again, { onLess: less,
+        takeLeft: (say) => takeLeft(field, state.known, { taken, take, say }) });
       box.replaceChildren(...picked.shown(() => less([])));
     }
     taken.push(choice);

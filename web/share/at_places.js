@@ -2,7 +2,7 @@
 // and then each is sent, if it is still the one that was judged.
 
 import { printList } from '../acl/entries.js';
-import { UNNAMED } from '../acl/question.js';
+import { FOLLOWS, UNNAMED } from '../acl/question.js';
 import { texts } from '../language/language.js';
 import { Refusal } from '../net/api.js';
 import { seeList, setIfSame } from '../net/matched_list.js';
@@ -14,16 +14,22 @@ import { isolated, sentenceOf } from '../text/words.js';
 import { noAnswerWords } from '../text/would_words.js';
 import { button, element } from '../ui/dom.js';
 import { clearDone, showDialog, tell } from '../ui/messages.js';
-import { belowOf, perhapsIn, surely, withChanges } from './consequences.js';
+import { belowOf, perhapsOf, surely, withChanges } from './consequences.js';
 import { tellOutcome } from './outcome_view.js';
 import { objectsRound } from './passage.js';
 import { changesAt, changesBelow, ofOwners } from './who_can.js';
 
 const FEW = 6;
 
-// Asks about the folder that is shown and all below it.
-export const askedOf = (state, changes = []) => foresee({ known: state.known, me: state.me, changes,
-  objects: objectsRound(state, belowOf(state).nodes) });
+// Asks about the folder that is shown and all below it, also about what is in folders that have a
+// name and only follow.
+export function askedOf(state, changes = []) {
+  const { nodes } = belowOf(state);
+  const following = nodes.filter(({ kind, text, path }) =>
+    kind === 'folder' && text === FOLLOWS && !path.includes(UNNAMED));
+  return foresee({ known: state.known, me: state.me, changes,
+    objects: objectsRound(state, nodes, following.map(({ path }) => path)) });
+}
 
 // What is known of the folder and of what has a name below it: {path, kind, text, list}.
 export const placesOf = (state) => [state, ...belowOf(state).nodes].filter(({ list, path }) =>
@@ -65,12 +71,13 @@ async function outcomeAt(state, steps) {
   const { path, kind } = state;
   const all = changesAt(said, { path, kind });
   const below = changesBelow(said, nodes, all, path);
-  const { gaining, losing } = ofOwners(said, nodes);
+  const { gaining: owners, losing: losers } = ofOwners(said, nodes);
   const changes = surely(all);
-  const outcome = { changes, isAll, unread, asked: said.asked, owners: gaining, losers: losing,
+  const outcome = { changes, isAll, unread, asked: said.asked,
+    owners: surely(owners), losers: surely(losers),
     gains: changes.filter(({ more }) => more), losses: changes.filter(({ more }) => !more),
     below: withChanges(below, surely),
-    perhaps: { changes: perhapsIn(all), below: withChanges(below, perhapsIn) },
+    perhaps: perhapsOf(all, below, { owners, losers }),
     removal: removalOf(said, { path, kind }, { nodes, all: isAll, protect: state.list.protect }),
     opening: [], kept: [], apart: [], left: [], back: [], keptFrom: { steps: [], others: [] },
     isKnown: true, isOwnNew: false, hasGroups: false, lock: null };
@@ -78,7 +85,7 @@ async function outcomeAt(state, steps) {
 }
 
 // What comes of it, in a box that is drawn anew: 'send' waits for it. 'moreOf' makes what stands
-// below that by what the program said.
+// below that by what the program said of which steps.
 class Coming {
   /** @param {any} state */
   constructor(state, send, moreOf) {
@@ -95,7 +102,7 @@ class Coming {
     this.send.disabled = true;
     const drawn = steps.length === 0 ? { told: [], isKnown: false }
       : await outcomeAt(this.state, steps).then(
-        (one) => ({ told: this.toldOf(one), isKnown: true }),
+        (one) => ({ told: this.toldOf(one, steps), isKnown: true }),
         (fault) => ({ told: this.unanswered(fault, steps), isKnown: false }));
     if (mine !== this.looks) return;
     this.shown.replaceChildren(element('div', { 'aria-busy': 'false', class: 'outcome' },
@@ -103,8 +110,8 @@ class Coming {
     this.send.disabled = !drawn.isKnown;
   }
 
-  toldOf({ said, outcome }) {
-    return [tellOutcome(this.state, outcome).shown, ...this.moreOf(said)];
+  toldOf({ said, outcome }, steps) {
+    return [tellOutcome(this.state, outcome).shown, ...this.moreOf(said, steps)];
   }
 
   // It isn't known that nobody loses anything.

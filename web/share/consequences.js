@@ -41,22 +41,21 @@ function besideOf(said, opening, nodes) {
   const levels = new Set(found.flatMap(({ path, changes }) =>
     changes.map(({ id, to }) => `${path} ${id} ${to}`)));
   const others = new Map(open.map(({ path }) => [imagined(path).folder, imagined(path).other]));
-  return withChanges(found, (changes, { path }) => changes.filter(({ id, to }) =>
-    (to !== 'pass' || !open.some((one) => one.path === path))
+  return withChanges(found, (changes, { path }) => changes.filter(({ id, to, gained }) =>
+    (to !== 'pass' || gained.length > 0 || !open.some((one) => one.path === path))
     && !levels.has(`${others.get(path)} ${id} ${to}`)));
 }
 
 // Of these levels it is said that they remove what they added.
-const removesOwn = (level) => ['change', 'remove', 'manage'].includes(level);
+const REMOVING_OWN = ['change', 'remove', 'manage'];
 
 // Those whose own objects they may then remove, or no longer, where nothing else says it.
-function ownersOf(said, { inside, beside }, { path, kind }, changes) {
-  const [here, there] = [ofOwners(said, inside), ofOwners(said, beside)];
+function ownersOf(said, { inside, beside }, changes) {
+  const [here, there] = [ofOwners(said, inside, REMOVING_OWN), ofOwners(said, beside)];
   const lost = new Set(changes.filter(({ more, lost, to }) => !more
-    && (lost.length > 0 || !removesOwn(to))).map(({ id }) => id));
-  return { owners: [...here.gaining.filter((one) =>
-    !removesOwn(said.extentAt(path, kind, one)?.level)), ...there.gaining],
-  losers: here.losing.filter(({ id }) => !lost.has(id)) };
+    && (lost.length > 0 || !REMOVING_OWN.includes(to))).map(({ id }) => id));
+  return { owners: [...here.gaining, ...there.gaining],
+    losers: here.losing.filter(({ id }) => !lost.has(id)) };
 }
 
 // Whether I lose the list by this: null, or {loss, exact, givers, nobody}.
@@ -77,10 +76,14 @@ function linesIn(list, after, kind) {
 
 // What is sure, and what isn't since it isn't known who is in which groups.
 export const surely = (changes) => changes.filter(({ isPerhaps, owns }) => !isPerhaps || owns);
-export const perhapsIn = (changes) => changes.filter(({ isPerhaps, owns }) => isPerhaps && !owns);
+const perhapsIn = (changes) => changes.filter(({ isPerhaps, owns }) => isPerhaps && !owns);
 export const withChanges = (places, of) => places
   .map((one) => ({ ...one, changes: of(one.changes, one) }))
   .filter((one) => one.changes.length > 0);
+
+// What isn't sure, of the object, of places below and of what callers own.
+export const perhapsOf = (changes, below, { owners, losers }) => ({ changes: perhapsIn(changes),
+  below: withChanges(below, perhapsIn), owners: perhapsIn(owners), losers: perhapsIn(losers) });
 
 // {after, gaining, opening}: what can be said of a list before anything further down is seen.
 export async function nearOf(state, next, subject) {
@@ -97,7 +100,7 @@ function nodesOf(state, opening) {
   const isHere = ({ path }) => isBelow(path, state.path);
   return { nodes, inside: nodes.filter(isHere), found,
     beside: nodes.filter((one) => !isHere(one) && one.path !== state.path
-      && !opening.some(({ path }) => path === one.path)),
+      && !opening.some(({ path, next }) => next !== null && path === one.path)),
     isAll: found.all && opened.all, unread: together(found.unread, opened.unread) };
 }
 
@@ -122,16 +125,17 @@ export async function outcomeOf(state, next, subject, near) {
   const losing = changes.filter(({ more, isRemoval }) => !more && !isRemoval);
   const kept = keptBelow(said, inside, losing, top);
   const below = [...changesBelow(said, inside, all, path), ...besideOf(said, opening, beside)];
+  const own = ownersOf(said, { inside, beside }, all);
   const isLeaving = subject?.isLeaving === true;
   const ofSubject = places.filter((place) => kept.some((one) => one.path === place.path
     && one.kept.some(isMeant(subject))));
   return {
     changes, opening, kept, ...seen, asked: said.asked,
-    ...ownersOf(said, { inside, beside }, top, changes),
+    owners: surely(own.owners), losers: surely(own.losers),
     apart: inside.filter((one) => isException(one) && one.list.protect),
     gains: changes.filter(({ more }) => more), losses: changes.filter(({ more }) => !more),
     below: withChanges(below, surely), isKnown: after.known,
-    perhaps: { changes: perhapsIn(all), below: withChanges(below, perhapsIn) },
+    perhaps: perhapsOf(all, below, own),
     keptFrom: await keptFrom(state, places, subject),
     left: isLeaving ? await leftovers(state, next, subject) : [],
     back: isLeaving ? await furtherLines(state, next, ofSubject, subject) : [],

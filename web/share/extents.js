@@ -12,15 +12,21 @@ export const callerOf = ({ callers, asked }, user) => callers.find((one) => one.
   && (asked.isExact || one.groups.length === 0)) ?? callers.find((one) =>
   one.user === null && one.key === ANY_OTHER);
 
-// What somebody can do at an object, in words: also what they may remove beyond their level.
-function extentWords({ level, it, inside, all }, kind) {
-  const isWhole = ['remove', 'manage'].includes(level);
-  const removals = isWhole ? [] : [it && 'it', inside && 'inside'].filter(Boolean);
-  const words = removals.length > 0 && ['none', 'pass'].includes(level)
-    ? texts.outcome.keepsRemoving(removals) : texts.outcome.keeps(level, kind, removals);
+const isWhole = (level) => ['remove', 'manage'].includes(level);
+
+// Whether somebody has more than their level.
+function isBeyond({ level, all }) {
   const letters = lettersIn(level);
-  const isBeyond = all.some(({ mask }) => [...mask].some((one) => !letters.includes(one)));
-  return isBeyond ? texts.outcome.withMore(words) : words;
+  return all.some(({ mask }) => [...mask].some((one) => !letters.includes(one)));
+}
+
+// What somebody can do at an object, in words: also what they may remove beyond their level.
+function extentWords(extent, kind) {
+  const { level, it, inside } = extent;
+  const removals = isWhole(level) ? [] : [it && 'it', inside && 'inside'].filter(Boolean);
+  const words = removals.length > 0 && level === 'none'
+    ? texts.outcome.keepsRemoving(removals) : texts.outcome.keeps(level, kind, removals);
+  return isBeyond(extent) ? texts.outcome.withMore(words) : words;
 }
 
 const isBelow = (path, top) => path !== top && path.startsWith(top === '/' ? '/' : `${top}/`);
@@ -34,9 +40,10 @@ export function extentsAt(said, places, caller, side) {
     if (extent === null) continue;
     const words = extentWords(extent, kind);
     const above = [...told].reverse().find((one) => isBelow(path, one.path));
-    if (above === undefined || above.level !== extent.level
-      || (above.kind === kind && above.words !== words)) {
-      told.push({ path, kind, level: extent.level, words });
+    const [clears, hasMore] = [extent.inside || isWhole(extent.level), isBeyond(extent)];
+    if (above === undefined || above.level !== extent.level || (above.kind === kind
+      ? above.words !== words : (extent.it && !above.clears) || (hasMore && !above.hasMore))) {
+      told.push({ path, kind, level: extent.level, words, clears, hasMore });
     }
   }
   return told;

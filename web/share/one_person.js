@@ -14,7 +14,7 @@ import { linkTo } from '../ui/links.js';
 import { tellFault, waitFor } from '../ui/messages.js';
 import { picker } from '../ui/picker.js';
 import { lookingLine } from '../ui/progress.js';
-import { levelWords } from './access_words.js';
+import { levelWords, wayWords } from './access_words.js';
 import { askedOf, placesOf } from './at_places.js';
 import { belowOf } from './consequences.js';
 import { callerOf, extentsAt, ownedAt } from './extents.js';
@@ -41,10 +41,12 @@ function linesIn(said, state, who) {
 function perhapsLines(said, state, alone) {
   const those = said.callers.filter((one) => one.groups.length > 0 && !said.asked.isExact
     && one.user === alone.user);
-  const told = those.map((caller) => ({ caller, says: new Set(extentsAt(said, placesOf(state),
-    caller, BEFORE).map(({ path, words }) => `${path}\n${words}`)) }));
-  const own = { caller: { ...alone, isPerhaps: false }, says: new Set(extentsAt(said,
-    placesOf(state), alone, BEFORE).map(({ path, words }) => `${path}\n${words}`)) };
+  const saysOf = (caller) => new Set([...extentsAt(said, placesOf(state), caller, BEFORE),
+    ...ownedAt(said, belowOf(state).nodes, caller, BEFORE).map(({ path, words }) => (
+      { path, words: texts.person.theirsThere(words) }))]
+    .map(({ path, words }) => `${path}\n${words}`));
+  const told = those.map((caller) => ({ caller, says: saysOf(caller) }));
+  const own = { caller: { ...alone, isPerhaps: false }, says: saysOf(alone) };
   return toTell([own, ...told.map(({ caller, says }) => ({ caller: { ...caller, isPerhaps: true },
     says }))]).filter((one) => one !== own).map(({ caller, says }) => ({ groups: caller.groups,
     places: [...says].filter((one) => !own.says.has(one)).map((one) => {
@@ -72,7 +74,7 @@ function answer(said, state, person, again) {
       ownedAt(said, belowOf(state).nodes, caller, BEFORE).map(({ path, words }) =>
         line({ path, words: texts.person.theirsThere(words) }))),
     perhaps(perhapsLines(said, state, caller)),
-    ...[lessWords(said.asked), unread.length === 0 ? null
+    ...[lessWords(said.asked), wayWords(state), unread.length === 0 ? null
       : texts.outcome.unreadThere(unreadNames(unread, FEW))]
       .map((words) => words && element('p', { class: 'hint' }, words)),
     isOther ? element('div', { class: 'actions' }, act(texts.person.takeOut, takeOut),

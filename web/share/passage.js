@@ -14,15 +14,15 @@ import { ownText, seeList, setIfSame } from '../net/matched_list.js';
 import { isUnanswered } from '../net/retry.js';
 
 // The objects of a question about what is shown: the way, the object, and what was seen further
-// down, which may begin above it.
-export function objectsRound({ path, kind, text, object, folders }, nodes) {
+// down, which may begin above it. What is in folders has rows for these 'asked' paths too.
+export function objectsRound({ path, kind, text, object, folders }, nodes, asked = []) {
   const way = wayObjects(folders);
   const known = new Set([path, ...way.map((one) => one.path)]);
   const depth = (one) => one.path.split('/').length;
   const rest = nodes.filter((one) => !known.has(one.path))
     .sort((one, other) => depth(one) - depth(other));
   return withImagined([...way, { path, kind, text, object }, ...rest],
-    kind === 'folder' ? [path] : []);
+    kind === 'folder' ? [path, ...asked] : []);
 }
 
 // Those who have to be let pass: whoever gains something here, and whom this is about. Everyone at

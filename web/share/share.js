@@ -17,7 +17,7 @@ import { linkTo } from '../ui/links.js';
 import { Looking } from '../net/crawl.js';
 import { readListText } from '../acl/entries.js';
 import { askedFor } from '../ui/ask_whom.js';
-import { notShown, tellFault, waitFor } from '../ui/messages.js';
+import { notShown, tell, tellFault, waitFor } from '../ui/messages.js';
 import { people } from '../net/directory.js';
 import { placeName, shownName } from './access_words.js';
 import { onePerson } from './one_person.js';
@@ -70,9 +70,13 @@ function following(state, again) {
       allTheSame: texts.access.followAllTheSame,
       sentence: () => texts.access.followSays(above) }));
   box.addEventListener('change', async () => {
-    const done = await ask(box.checked).catch(tellFault);
+    const isCut = box.checked;
+    const done = await ask(isCut).catch(tellFault);
     if (done) await again('.following input');
     else box.checked = list.protect;
+    if (done === 'sent') {
+      tell('good', (isCut ? texts.access.ownList : texts.access.follows)(kind, above));
+    }
   });
   const follows = rowsFromAbove(model.rows).length === 0 ? texts.access.follows(kind, above)
     : `${texts.access.follows(kind, above)} ${texts.access.greyLines}`;
@@ -97,8 +101,9 @@ function openNote(state, again) {
     title: texts.access.keepInPlace, words: texts.access.keepThem,
     allTheSame: texts.access.keepAllTheSame, sentence: () => texts.access.keepSays,
   }).then((done) => (done ? again(FIELD) : null)).catch(tellFault);
-  return element('div', { class: 'note-of' }, element('p', {}, texts.access.open),
-    state.isMine ? button(texts.access.letOnly, keep, { class: 'small' }) : null);
+  return element('div', { class: 'note-of' }, element('p', {},
+    state.isMine ? `${texts.access.open} ${texts.access.openFirst}` : texts.access.open),
+  state.isMine ? button(texts.access.letOnly, keep, { class: 'small' }) : null);
 }
 
 // Those who may remove the object, though its own lines don't say so: by what the list of the

@@ -5,13 +5,16 @@ import { texts } from '../language/language.js';
 import { INVISIBLE_SIGNS } from '../tables/invisible_signs.js';
 
 // Controls, formatting signs, blanks other than a space, and letters without a shape. A joiner is
-// left alone where it belongs: after signs such as emojis, and in scripts that need it.
+// left alone where it belongs: after signs such as emojis, and in scripts that need it. So is what
+// chooses a form of an emoji or of a Chinese sign.
 const JOINS = '\\p{Extended_Pictographic}\\p{Emoji_Modifier}\\p{M}\\p{Script=Arabic}';
-const JOINERS = `(?<![${JOINS}])[\\u200c\\u200d]`;
+const JOINERS = `(?<!(?![\\u0300-\\u036f])[${JOINS}])[\\u200c\\u200d]`;
+const CHOSEN = '(?<![\\p{Extended_Pictographic}\\p{Script=Han}])';
+const SELECTORS = `${CHOSEN}[${INVISIBLE_SIGNS.selectors}](?!\\u20e3)`;
 const FORMAT = '(?![\\u200c\\u200d])[\\p{Cc}\\p{Cf}\\p{Zl}\\p{Zp}]';
-const UNSEEN = `[${INVISIBLE_SIGNS.unseen}]`;
+const UNSEEN = `[${INVISIBLE_SIGNS.unseen}${INVISIBLE_SIGNS.unassigned}]`;
 const BLANKS = `[${INVISIBLE_SIGNS.blanks}]|^ +| +$`;
-const SIGNS = new RegExp([JOINERS, FORMAT, UNSEEN, BLANKS].join('|'), 'gu');
+const SIGNS = new RegExp([JOINERS, SELECTORS, FORMAT, UNSEEN, BLANKS].join('|'), 'gu');
 
 const codeOf = (sign) => (sign.startsWith(' ') ? texts.lists.space
   : `U+${sign.codePointAt(0).toString(16).toUpperCase().padStart(4, '0')}`);

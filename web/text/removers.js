@@ -25,11 +25,13 @@ function outermost(nodes) {
 // 'protect' whether the list is then cut off.
 export function removalOf(said, { path, kind }, { nodes, all, protect, fault = null }) {
   const extent = (caller, side) => said.extentAt(path, kind, caller, side);
+  const isManager = (caller) => extent(caller, AFTER).level === 'manage';
+  // Of a group that manages it nothing may be told, and of one who is in it and doesn't it is.
+  const saysOf = (caller) => new Set(['removes', ...isManager(caller) ? [] : ['only']]);
   const gaining = (word) => shared(toTell(said.callers.filter((caller) => {
     const [had, has] = [BEFORE, AFTER].map((side) => extent(caller, side));
     return has?.[word] && had !== null && !had[word];
-  }).map((caller) => ({ caller, says: new Set(['removes']) })))).map(({ caller }) => caller);
-  const isManager = (caller) => extent(caller, AFTER).level === 'manage';
+  }).map((caller) => ({ caller, says: saysOf(caller) })))).map(({ caller }) => caller);
   const says = (caller) => said.at(path, caller).raw.includes('D')
     || Object.values(imagined(path)).some((one) => said.at(one, caller)?.raw.includes('d'));
   // Whether the caller may move this one away, or a folder on the way to it.

@@ -13,7 +13,9 @@ import { fullName, people } from '../net/directory.js';
 import { wayObjects, withImagined } from '../net/pieces.js';
 import { foresee } from '../net/would.js';
 import { lossOf, lossWords } from './loss.js';
+import { partyName } from './parties.js';
 import { removalOf, removalWords } from './removers.js';
+import { shortened } from './who_is.js';
 import { isolated, placeWords } from './words.js';
 import { isListFault, noAnswerWords } from './would_words.js';
 
@@ -41,34 +43,43 @@ function meant(entry, callers, object) {
 }
 
 // Where those whom an entry means aren't surely let pass, of [{path, rows}] with a row for each of
-// them, null where the list can't be read: {path, answer, depends}, or null.
+// them, null where the list can't be read: {path, answer, depends, stopped}, or null. Some of those
+// who are known may be stopped: then the answer is 'some'.
 function hindrance(places) {
   const judged = places.map(({ path, rows, callers }) => {
     const passing = callers.filter((_, at) => rows?.[at]);
     if (rows === null || passing.length === callers.length) {
-      return { path, answer: rows === null ? 'unread' : 'yes', depends: [] };
+      return { path, answer: rows === null ? 'unread' : 'yes', depends: [], stopped: [] };
     }
+    const stopped = callers.filter((_, at) => !rows[at]);
+    const partly = stopped.every(({ isExact }) => isExact) ? 'some' : 'perhaps';
     const [fewest] = passing.sort((one, other) => one.groups.length - other.groups.length);
     const groups = new Set(passing.filter((one) =>
       one.groups.length === fewest?.groups.length).flatMap((one) => one.groups));
-    return { path, answer: passing.length > 0 ? 'perhaps' : 'no', depends: [...groups] };
+    return { path, answer: passing.length > 0 ? partly : 'no', depends: [...groups], stopped };
   });
   return judged.find(({ answer }) => answer === 'no')
     ?? judged.find(({ answer }) => answer !== 'yes') ?? null;
 }
 
 function nameOf(entry, object, known) {
+  if (isEverybody(entry)) return texts.names.inSentence[entry.who];
   const who = { 'OWNER@': object.owner, 'GROUP@': object.group }[entry.who] ?? entry.who;
   return isGroup(entry) || entry.who === 'GROUP@' ? texts.who.group(who)
     : isolated(fullName(known, who));
 }
 
 // A sentence about one who can't get here, or perhaps not: {kind: 'bad' or 'unsure', text}.
-function passageWords(entry, found, who) {
+function passageWords(entry, found, object, known) {
+  const who = nameOf(entry, object, known);
   const place = found.path === null ? null : placeWords(found.path);
-  if (found.answer === 'no' || (isEverybody(entry) && found.answer === 'perhaps')) {
-    return { kind: 'bad', text: isEverybody(entry) ? texts.warnings.noPassageForAll(place)
-      : texts.warnings.noPassage(who, place) };
+  if (isEverybody(entry) && found.answer !== 'unread') {
+    return { kind: 'bad', text: texts.warnings.noPassageForAll(place) };
+  }
+  if (found.answer === 'no') return { kind: 'bad', text: texts.warnings.noPassage(who, place) };
+  if (found.answer === 'some') {
+    const names = shortened(found.stopped.map((one) => partyName(one, known)));
+    return { kind: 'bad', text: texts.warnings.noPassageForSome(who, place, names) };
   }
   return { kind: 'unsure', text: found.answer === 'unread'
     ? texts.warnings.passageUnread(who, place)
@@ -77,13 +88,14 @@ function passageWords(entry, found, who) {
 
 // Sentences about those who are added and can't get here, by what each list on the way says by
 // itself, and this one where it passes something on.
-async function passageOf({ fresh, after, kind, object, folders, known, me }) {
+async function passageOf({ fresh, after, kind, object, folders, known, me, sent }) {
   if (fresh.length === 0) return [];
   const lists = [...folders.filter(({ list }) => list !== null).map((one, at) => (
     { ...one, name: `b${at}`, kind: 'folder' })),
   ...kind === 'folder' && after.known
     ? [{ path: null, name: 't', kind, list: after, object }] : []];
-  const said = await foresee({ objects: objectsAlone(lists), known, me });
+  const said = await foresee({ objects: objectsAlone(lists), known, me,
+    beside: [{ text: printList(sent), object }] });
   return fresh.flatMap((entry) => {
     const callers = meant(entry, said.callers, object);
     if (callers.length === 0) return [];
@@ -94,7 +106,7 @@ async function passageOf({ fresh, after, kind, object, folders, known, me }) {
     const places = [...folders.map(({ path }) => path), ...passesOn && at(null) ? [null] : []];
     const found = hindrance(places.map((path) => (
       { path, callers, rows: at(path) ? row(at(path)) : null })));
-    return found ? [passageWords(entry, found, nameOf(entry, object, known))] : [];
+    return found ? [passageWords(entry, found, object, known)] : [];
   });
 }
 
@@ -131,7 +143,7 @@ async function asked({ path, kind }, { now, before, sent }) {
   const depth = (one) => one.path.split('/').length;
   const nodes = below.nodes.sort((one, other) => depth(one) - depth(other));
   const fresh = added(sent, before);
-  const passage = passageOf({ fresh, after, kind, object, folders, known, me });
+  const passage = passageOf({ fresh, after, kind, object, folders, known, me, sent });
   passage.catch(() => {}); // That is told once the rest is known.
   const said = await foresee({ known, me, changes: [{ set: path, text: printList(sent) }],
     objects: withImagined([...wayObjects(folders), { path, kind, text: now, object }, ...nodes],

@@ -4,28 +4,9 @@ import { texts } from '../language/language.js';
 import { join, namesOf } from '../net/api.js';
 import { element, nameText } from './dom.js';
 
-const VIEWS = ['show', 'access', 'rights', 'dacl', 'sacl', 'earlier', 'new'];
-
 export function linkTo(path, view = null) {
   const names = namesOf(path).map(encodeURIComponent).join('/');
   return `#/${names}${view ? `?${view}` : ''}`;
-}
-
-function decoded(name) {
-  try {
-    return decodeURIComponent(name);
-  } catch {
-    return name;
-  }
-}
-
-// {path, view, night}; without a view the folder itself is shown, or a document by the view 'show'.
-// 'night' is the one of the view 'earlier', or null.
-export function whereIs(hash) {
-  const [place, rest = ''] = hash.replace(/^#/, '').split('?');
-  const [view, night = null] = rest.split('=');
-  const names = place.split('/').filter((name) => name !== '').map(decoded);
-  return { path: `/${names.join('/')}`, view: VIEWS.includes(view) ? view : null, night };
 }
 
 // The path as links, from the top down.

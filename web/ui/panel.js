@@ -5,6 +5,24 @@ import { texts } from '../language/language.js';
 import { button, element } from './dom.js';
 
 const STAYS = 8000;
+const PAUSE = 100;
+
+// Draws the last of what comes soon after one another: of thousands each would be a picture.
+function seldom(draw) {
+  let [waits, last] = [false, null];
+  const next = () => {
+    waits = last !== null;
+    if (!waits) return;
+    const now = last;
+    last = null;
+    setTimeout(next, PAUSE);
+    draw(...now);
+  };
+  return (...given) => {
+    last = given;
+    if (!waits) next();
+  };
+}
 
 export function newPanel(label, title, ...buttons) {
   const count = element('span', { class: 'count' });
@@ -31,12 +49,16 @@ export function newPanel(label, title, ...buttons) {
   document.getElementById('uploads').append(panel);
 
   // Numbers alone go to a screen reader at the end only.
-  const show = (done, whole) => {
+  const show = seldom((done, whole) => {
     count.textContent = texts.messages.progress(done, whole);
     bar.value = whole === 0 ? 1 : done / whole;
     bar.hidden = done === whole;
+  });
+  // Whoever sees the rows needs no words for what went well.
+  const say = (words, isShown = false) => {
+    told.className = isShown ? 'hint' : 'unseen';
+    told.textContent = words;
   };
-  const say = (words) => { told.textContent = words; };
   // Goes by itself, but not while somebody looks at it.
   const leave = () => setTimeout(() => {
     if (panel.matches(':hover, :focus-within')) leave();

@@ -50,16 +50,9 @@ function wordsFor({ who, isGroup, sure }, known) {
   return members === null ? texts.picker.group : texts.picker.groupOf(members.length);
 }
 
-// What a press on it picks beside the name. By the keyboard that comes after the name.
-function quickPick({ words, gives }, choice, onPick) {
-  const made = element('span', { class: 'quick', 'aria-hidden': 'true' }, words);
-  made.addEventListener('pointerdown', (event) => {
-    event.preventDefault();
-    event.stopPropagation();
-    onPick({ ...choice, ...gives });
-  });
-  return made;
-}
+// A press on these words picks more than the name. By the keyboard that comes after the name.
+const quickPick = ({ words }) =>
+  element('span', { class: 'quick', 'aria-hidden': 'true' }, words);
 
 function line(choice, known, id, { onPick, quick }) {
   const { who, isGroup, sure } = choice;
@@ -68,11 +61,12 @@ function line(choice, known, id, { onPick, quick }) {
     mark(known, who, isGroup),
     element('span', {}, nameText(isGroup ? who : fullName(known, who))),
     element('span', { class: 'hint' }, wordsFor(choice, known)),
-    quick && sure ? quickPick(quick, choice, onPick) : null);
+    quick && sure ? quickPick(quick) : null);
+  // The words listen to nothing themselves: a browser gives a touch beside what listens to that.
   made.addEventListener('pointerdown', (event) => {
     // The focus stays where it is, since the list closes without it.
     event.preventDefault();
-    onPick(choice);
+    onPick(event.target.closest('.quick') ? { ...choice, ...quick.gives } : choice);
   });
   return made;
 }
@@ -121,6 +115,14 @@ function choiceList(input, known, picks) {
     box, show, step, isOpen: () => choices.length > 0, chosen: () => choices[at],
     close: () => show([], ''),
   };
+}
+
+// What stands in a field and wasn't chosen, and who it is if it fits one alone: {typed, only}.
+export function leftIn(field, known, taken) {
+  const typed = field.querySelector('input').value.trim();
+  const found = typed === '' ? [] : choicesFor(typed, knownNames(known),
+    { isKnown: known !== null, taken, isOfPeople: false }).filter(({ sure }) => sure);
+  return { typed, only: found.length === 1 ? found[0] : null };
 }
 
 // 'taken' are those who have access already, as they are at each key. 'onPick' is called with {who,

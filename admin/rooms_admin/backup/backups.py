@@ -4,6 +4,7 @@ BACKUPS. Those that an earlier version left in BACKUPS itself are the room's too
 
 A backup is a folder of root's with files of root's, which nobody else can change. Whatever else has
 the name of one is told, and as long as it is there no backup is removed."""
+import datetime
 import errno
 import os
 import re
@@ -12,12 +13,15 @@ from collections.abc import Iterable
 from dataclasses import dataclass, field
 
 from ..host import safe, waiting
-from ..cli.report import Refused
+from ..cli.report import Refused, say
 from ..room.settings import Room
 
 DATED = re.compile(r"\d{4}-\d\d-\d\d\.\d{6}", re.ASCII)
 # Beside the two files: which run it was. It is written once the copy was found sound.
 RUN = "run"
+# A clock may be ahead for a night. Where it is further from the last backup than that, what would
+# be lost by its date stays, until the next night.
+TRUSTED = datetime.timedelta(7)
 # No run gets so far: one a second for thirty years.
 _MOST = 999_000_000
 
@@ -50,6 +54,14 @@ def moments(name: str) -> list[int]:
         return sorted(at for at in found if time.localtime(at)[:6] == said[:6])
     except (ValueError, OverflowError):
         return []
+
+
+def day(name: str) -> datetime.date | None:
+    """By its name."""
+    try:
+        return datetime.date.fromisoformat(name[:10])
+    except ValueError:
+        return None
 
 
 def made(copy: Backup) -> int | None:
@@ -98,6 +110,15 @@ def make_closed(place: str) -> None:
         os.rmdir(place)
         raise OSError(errno.EPERM, "its disk leaves it open to other accounts: mount it with the "
                       "option umask=0077")
+
+
+def give_number(within: int, number: int) -> None:
+    """What makes a copy a backup, once it was found sound: before it gets its name all of it is on
+    the disk, since one whose number a power cut took would count as older than all others."""
+    safe.new_file(within, RUN, f"number {number}\n".encode(), 0o600)
+    with safe.opened(safe.own_file_below(within, RUN)) as made:
+        os.fsync(made)
+    os.fsync(within)
 
 
 def _number(within: int) -> int:
@@ -230,10 +251,13 @@ def newest(room: Room, name: str) -> str:
 def find(room: Room, backup: str) -> str:
     """The folder of a backup, by the word that names it: a path has a slash in it."""
     if backup == "latest":
-        found = known(room).backups
-        if not found:
+        found = known(room)
+        # What doesn't count may be newer than the one that is taken.
+        for text in found.wrong:
+            say(text)
+        if not found.backups:
             raise Refused(f"no backup: {room.backups} has none of this room")
-        return found[-1].place
+        return found.backups[-1].place
     places = [backup] if "/" in backup else [
         os.path.join(above, backup) for above in (
             folder(room), room.backups, hours_below(room.backups, room.name))]

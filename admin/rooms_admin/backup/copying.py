@@ -157,6 +157,7 @@ class _Copier:
                 signal.signal(one, signal.SIG_DFL)
             processes.end_with_parent()
             processes.keep_files(begins, says, *self._targets.numbers)
+            processes.say_nothing(begins, says, *self._targets.numbers)
             if os.read(begins, 1) != b"x":
                 return
             try:
@@ -189,11 +190,12 @@ class _Copier:
         for what others write meanwhile."""
         if near is not None and safe.clone(source, near):
             return "near"
-        before = self._copied()
-        if near is not None and _free(near) >= os.fstat(source).st_size + _SPARE:
+        before, size = self._copied(), os.fstat(source).st_size
+        if near is not None and _free(near) >= size + _SPARE:
             try:
                 while count := os.copy_file_range(source, near, _CHUNK):
                     self._add(count)
+                safe.need_all(before + size - self._copied())
                 return "near"
             except OSError as fault:
                 if fault.errno not in (errno.ENOSPC, errno.EDQUOT, errno.EXDEV, errno.EOPNOTSUPP):
@@ -204,6 +206,7 @@ class _Copier:
         with safe.opened(_far(self._part, name)) as far:
             while count := os.sendfile(far, source, None, _CHUNK):
                 self._add(count)
+        safe.need_all(before + size - self._copied())
         return "far"
 
     def _add(self, count: int) -> None:
@@ -339,6 +342,17 @@ def find_backups(room: Room) -> None:
     if place := safe.of_others(room.backups):
         raise Refused(f"not root's: others can change {place}, on the way to {room.backups}, "
                       f"of BACKUPS in {room.conf}")
+
+
+def hindered(room: Room) -> str:
+    """The same for whoever doesn't wait for a disk that hangs: what a run would say."""
+    def look() -> str:
+        try:
+            find_backups(room)
+            return ""
+        except Refused as why:
+            return str(why)
+    return str(waiting.answer(waiting.PATIENCE, look, room.backups) or "")
 
 
 def close_backups(room: Room) -> None:

@@ -4,11 +4,13 @@ reads: root puts nothing into a folder of the door's."""
 import contextlib
 import json
 import os
+import pwd
+import select
 import stat
 import sys
 import time
 
-from ..host import commands, locks, safe
+from ..host import commands, locks, processes, safe, taken, waiting
 from ..room import program
 from . import backups
 from ..cli.report import Interrupted, Stop, say
@@ -23,19 +25,30 @@ _MONTH = 31 * 86_400_000
 _HERE = os.path.dirname(os.path.realpath(__file__))
 _LIST, _OF_DOOR = (os.path.join(_HERE, name) for name in ("objects_of_copy.py",
                                                           "dates_of_door.py"))
-# In a backup; and how many bytes that has at most.
-KEPT, _MOST = "dates", 64 << 20
+# In a backup, whole and while it is written; and how many bytes that has at most.
+KEPT, FRESH, _MOST = "dates", ".dates.new", 64 << 20
+# Seconds for what the door knows, which itself ends before that.
+_PATIENCE = 660.0
 # The door's own file; and the group of a process that is to have none.
 _STORE, _NO_GROUP = "dates.db", 65534
+# Who a door is. Its folder is made when it starts for the first time.
+_DOOR = "rooms-door"
 
 
-def _reader(room: Room) -> int | None:
-    """The user of the room's door, if one has kept what changed."""
+def _reader(room: Room, begins: bool = False) -> int | None:
+    """The user of the room's door, if one has kept what changed, or is to begin."""
     try:
         seen = os.lstat(f"{ROOT}{CHANGES}/{room.name}")
     except OSError:
-        return None
+        return _door() if begins and room.notes_changes else None
     return seen.st_uid if room.notes_changes and stat.S_ISDIR(seen.st_mode) else None
+
+
+def _door() -> int | None:
+    try:
+        return pwd.getpwnam(_DOOR).pw_uid
+    except KeyError:
+        return None
 
 
 def journal(room: Room) -> int:
@@ -120,26 +133,48 @@ def keep(room: Room, folder: str) -> str:
 
 
 def _told_by_door(reader: int, above: str) -> tuple[bytes, str]:
-    """What the helper prints as the door's user, and what it says of faults."""
+    """What the helper prints as the door's user, and what it says of faults. Whoever else is that
+    user may hold it."""
     who = None if os.geteuid() == reader else commands.Who(reader, _NO_GROUP)
     with commands.started([sys.executable, "-IB", _OF_DOOR, _STORE], program.limits(0), who,
                           stdin=commands.NOTHING, cwd=above) as child:
         assert child.stdout and child.stderr
-        said = child.stdout.read(_MOST + 1)
-        child.stdout.close()
+        said, late = _read(child.stdout.fileno(), time.monotonic() + _PATIENCE)
+        if late or len(said) > _MOST:
+            processes.end(child.pid, reader)
         fault = child.stderr.read(1000).decode(errors="replace").strip()
     if len(said) > _MOST:
         return b"", f"more than {_MOST >> 20} MB"
+    if late:
+        return b"", f"no answer within {_PATIENCE:.0f} s"
     return said, "" if child.returncode == 0 else fault or f"status {child.returncode}"
+
+
+def _read(source: int, ends: float) -> tuple[bytes, bool]:
+    """All, or a little more than may be; and whether that took longer than it may."""
+    said = bytearray()
+    while len(said) <= _MOST:
+        if not select.select([source], [], [], max(0.0, ends - time.monotonic()))[0]:
+            return bytes(said), True
+        part = os.read(source, 1 << 16)
+        if not part:
+            break
+        said += part
+    return bytes(said), False
 
 
 def _kept(backup: str) -> bytes:
     """What a backup has of it, if that is root's own."""
     try:
-        with safe.own_file(os.path.join(backup, KEPT)) as source:
+        with taken.file(os.path.join(backup, KEPT)) as source:
             return safe.read_at_most(source.fileno(), _MOST)
     except OSError:
         return b""
+
+
+def _is_of_night(backup: str) -> bool:
+    return waiting.answer(waiting.PATIENCE, lambda: os.path.exists(
+        os.path.join(backup, backups.RUN)), backup) is True
 
 
 def _write_list(room: Room, reader: int, copied: str, at: int, megabytes: int,
@@ -207,13 +242,12 @@ class Restored:
         self.has_list = False
         # Before it all was as the backup has it, by the name that a nightly run gave it.
         found = backups.moments(os.path.basename(backup))
-        is_of_night = os.path.exists(os.path.join(backup, backups.RUN))
-        self.at = min(found) * 1000 if found and is_of_night else 0
+        self.at = min(found) * 1000 if found and _is_of_night(backup) else 0
         self.known = _kept(backup) if self.at else b""
 
     def look(self, copied: str) -> None:
-        """At a private copy, while the room is still the old one."""
-        reader = _reader(self.room)
+        """At a private copy, while the room is still the old one, or none was here."""
+        reader = _reader(self.room, True)
         if reader is None:
             return
         try:

@@ -80,8 +80,7 @@ def _copy(room: Room, source: str, number: int, now: float) -> str:
                 dir_fd=fresh)) as made:
             safe.copy_all(from_, made)
             os.fsync(made)
-        safe.new_file(fresh, backups.RUN, f"number {number}\n".encode(), 0o600)
-        os.fsync(fresh)
+        backups.give_number(fresh, number)
     if os.path.lexists(part.removesuffix(".part")):
         raise Stop(f"{part.removesuffix('.part')} is there already: the clock was set back")
     os.rename(part, part.removesuffix(".part"))

@@ -7,12 +7,13 @@ import time
 from collections.abc import Callable
 from contextlib import ExitStack
 from dataclasses import dataclass
+from typing import IO
 
 from ..cli import report
 from ..host import locks, mail, safe
 from ..room import health, names, needs, private_server, program, server
 from . import backups, copying, dates, for_search, texts, tidying
-from ..cli.report import Interrupted, Stop, say
+from ..cli.report import Interrupted, Refused, Stop, say
 from ..room.held import NotHeld
 from ..room.http_client import Caller, Client
 from ..room.settings import Room
@@ -26,7 +27,7 @@ class Beside:
     the site's certificate, and what users see that is made of a text."""
     save_machine: Callable[[str, str], list[str]]
     see_certificate: Callable[[Room], tuple[str, bool]]
-    for_users: list[tuple[str, Callable[[Room, str], list[str]]]]
+    for_users: list[tuple[str, Callable[[Room, IO[bytes], str], list[str]]]]
 
 
 class Night:
@@ -154,13 +155,13 @@ class Night:
             mail.notify(self.room.mail, f"{self.room.unit} on {os.uname().nodename} is stopped for "
                         "its copies", [text], "warning")
 
-    def on_copy(self, word: str, rest: list[str], into: int | None = None
+    def on_copy(self, word: str, rest: list[str], into: int | None = None, most: int = 0
                 ) -> tuple[int, bytes, str]:
         """No run of the program on the copy gets more memory than the settings say."""
         if not self.memory:
             self.memory = program.enough(self.room, self.copied)
         status, out, text = program.on_copy(self.room, self.copied, [word, *rest], self.memory,
-                                            into)
+                                            into, most=most)
         if "fault: memory" in text:
             text += f", with MEMORY={self.memory}"
         return status, out, text
@@ -174,8 +175,7 @@ class Night:
         try:
             with safe.opened(safe.own_folder(self.part)) as within:
                 if status == 0:
-                    safe.new_file(within, backups.RUN, f"number {number}\n".encode(), 0o600)
-                os.fsync(within)
+                    backups.give_number(within, number)
             os.rename(self.part, place if status == 0 else place + ".unsound")
         except (OSError, safe.NoFile) as fault:
             raise Stop(f"the copy can't be named {place}: {safe.why(fault)}") from fault
@@ -211,7 +211,11 @@ class Night:
                         "may have it whole")
         if not self.room.keep.nights or before.wrong or jumps or self.unread:
             return
-        for one in tidying.beyond(before.backups, self.room.keep, self.date):
+        gone = tidying.beyond(before.backups, self.room.keep, self.date)
+        if gone and (ahead := tidying.ahead(before.backups, self.room.keep, self.date)):
+            self.failed(f"no older backup is removed: {ahead}")
+            return
+        for one in gone:
             self.failed(tidying.remove(self.room, one.place, "has more in it than a backup"))
 
     def write_text(self, name: str, word: str, rest: list[str]) -> None:
@@ -224,7 +228,7 @@ class Night:
                         f"sound, but it has no {name}")
             return
         try:
-            status, _, text = self.on_copy(word, rest, out)
+            status, _, text = self.on_copy(word, rest, out, texts.most_of(name))
             if status == 0:
                 os.fsync(out)
                 os.rename(fresh, f"{self.kept}/{name}")
@@ -301,14 +305,14 @@ class Night:
                     f"{self.kept}/{texts.REVIEW}")
 
     def for_users(self) -> None:
-        """What the web interface shows beside the room, and accesses that have an end."""
+        """What the web interface shows beside the room, and accesses that have an end. The disk of
+        backups has given the text before anybody else has to wait."""
         for name, write in self.beside.for_users:
-            source = f"{self.kept}/{name}"
-            if not self.kept or not os.path.exists(source):
+            if not self.kept or not os.path.exists(f"{self.kept}/{name}"):
                 continue
             try:
-                with locks.lock(self.room.unit, 60):
-                    for one in write(self.room, source):
+                with texts.beside(self.room, self.kept, name) as source:
+                    for one in write(self.room, source, self.kept):
                         self.failed(one)
             except Interrupted:
                 raise
@@ -352,12 +356,13 @@ def tell(room: Room | None, failures: list[str]) -> None:
 
 def would(room: Room) -> int:
     """What goes by KEEP once there is tonight's. Nothing is copied, since that holds the room."""
-    copying.find_backups(room)
+    if why := copying.hindered(room):
+        raise Refused(why)
     date = time.strftime("%F.%H%M%S")
     print(f"would: {room.file} is copied to {os.path.join(backups.folder(room), date)}")
-    before = backups.look(room)
-    jumps = backups.jump(before)
-    wrong = [*before.wrong, *([jumps] if jumps else [])]
+    before = backups.known(room)
+    wrong = [*before.wrong, *filter(None, (
+        backups.jump(before), tidying.ahead(before.backups, room.keep, date)))]
     for text in wrong:
         say(f"no older backup is removed: {text}")
     if room.keep.nights and not wrong:

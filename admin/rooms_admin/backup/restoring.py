@@ -1,7 +1,11 @@
 """A backup put in a room's place: the files are exchanged by renames, and what a run that was
 cut off has left is put right."""
 import os
+import re
 import time
+from collections.abc import Iterator
+from contextlib import contextmanager
+from dataclasses import dataclass
 
 from ..cli import report
 from ..host import locks, safe
@@ -9,6 +13,10 @@ from ..room import health, private_server, program, server, settings
 from . import backups, dates
 from ..cli.report import Interrupted, Refused, Stop, say
 from ..room.settings import Room
+
+
+# What a restore leaves of the room that was there.
+_BEFORE = re.compile(r"before-restore\.\d{4}-\d\d-\d\d\.\d{6}", re.ASCII)
 
 
 def refuse_while_served(room: Room) -> None:
@@ -39,6 +47,24 @@ def verified(room: Room, copied: str, backup: str) -> None:
     if status != 0:
         raise Stop(f"no backup: verify of {backup}/{room.base} gives status {status}: "
                    f"{text or out.decode(errors='replace').strip()}")
+
+
+@dataclass(frozen=True)
+class Taken:
+    """What a backup has, in a folder of this run's own: whoever has it asks no disk of backups. It
+    was verified there, where the room's user changes nothing. That writes to it, and not to the
+    backup."""
+    place: str
+    copied: str
+    dates: dates.Restored
+
+
+@contextmanager
+def taken_from(room: Room, place: str) -> Iterator[Taken]:
+    """For whoever has no lock: its disk may hang."""
+    with private_server.private_copy(room, place) as copied:
+        verified(room, copied, place)
+        yield Taken(place, copied, dates.Restored(room, place))
 
 
 class Restore:
@@ -138,26 +164,24 @@ class Restore:
         if os.geteuid() == 0:
             os.fchown(number, self.room.owner, self.room.group)
 
-    def make_copy(self, backup: str) -> None:
-        """What was verified is a private copy, where the room's user changes nothing, and that one
-        gets to the room's folder. Verifying writes to it; the backup isn't changed."""
-        with private_server.private_copy(self.room, backup) as copied:
-            verified(self.room, copied, backup)
-            assert self.dates
-            self.dates.look(copied)
-            self.make_stage()
-            assert self.new is not None
-            try:
-                with safe.opened(safe.folder(os.path.dirname(copied))) as source:
-                    private_server.copy_files(os.path.basename(copied), source, self.new, self.base)
-                for name in (self.base, self.log):
-                    if name == self.log and not is_there(self.new, name):
-                        continue
-                    with safe.opened(safe.file_below(self.new, name)) as number:
-                        os.fsync(number)
-                        self.give(number)
-            except (OSError, safe.NoFile) as fault:
-                raise Stop(f"copy of {backup}/{self.base} failed: {safe.why(fault)}") from fault
+    def make_copy(self, taken: Taken) -> None:
+        """Of the private one."""
+        self.dates = taken.dates
+        self.dates.look(taken.copied)
+        self.make_stage()
+        assert self.new is not None
+        try:
+            with safe.opened(safe.folder(os.path.dirname(taken.copied))) as source:
+                private_server.copy_files(os.path.basename(taken.copied), source, self.new,
+                                          self.base)
+            for name in (self.base, self.log):
+                if name == self.log and not is_there(self.new, name):
+                    continue
+                with safe.opened(safe.file_below(self.new, name)) as number:
+                    os.fsync(number)
+                    self.give(number)
+        except (OSError, safe.NoFile) as fault:
+            raise Stop(f"copy of {taken.place}/{self.base} failed: {safe.why(fault)}") from fault
 
     def make_stage(self) -> None:
         """Until all is done it is root's, and nobody else changes anything in it."""
@@ -181,11 +205,10 @@ class Restore:
         move(self.new, self.at, self.base)
         os.fsync(self.at)
 
-    def restore(self, backup: str, named: str, starts: bool) -> None:
+    def restore(self, taken: Taken, named: str, starts: bool) -> None:
         """`starts` is whether somebody else starts the server afterwards."""
         self.own = True
-        self.dates = dates.Restored(self.room, backup)
-        self.make_copy(backup)
+        self.make_copy(taken)
         self.stop_server()
         # The server may have been started meanwhile.
         refuse_while_served(self.room)
@@ -200,7 +223,7 @@ class Restore:
         self.dates.tell()
         # A unit that has given up can't be started by hand before this.
         server.systemctl("reset-failed", self.room.unit)
-        print(f"restored {self.room.file} from {backup}")
+        print(f"restored {self.room.file} from {taken.place}")
         if self.kept:
             served = "--start " if self.start or starts else ""
             print(f"the old room is in {self.kept}; to put it back: rooms-admin restore {served}"
@@ -239,41 +262,63 @@ class Restore:
 
 
 def restore_room(conf: str, backup: str, start: bool, starts: bool = False) -> None:
-    """Without a backup it only cleans up after a run that was cut off."""
+    """Without a backup it only cleans up after a run that was cut off. What the disk of backups has
+    is here before the room is locked."""
     room = settings.room(conf)
+    named = f"--room {conf} " if conf else ""
     with locks.lock(room.unit, 0):
         if not start:
             refuse_while_served(room)
-        found = backups.find(room, backup) if backup else ""
-        task = Restore(room, start)
-        try:
-            if task.stage is not None or not found:
-                task.stop_server()
-                refuse_while_served(room)
-                task.settle("an earlier restore")
-            if found:
-                task.restore(found, f"--room {conf} " if conf else "", starts)
-        except (Stop, OSError) as stop:
-            report.ignore_signals()
-            if task.own:
-                if isinstance(stop, Interrupted):
-                    say("interrupted")
-                task.settle("this restore")
-            raise
-        finally:
-            report.ignore_signals()
-            if task.dates:
-                task.dates.end()
-            task.start_server()
+        if not backup or Restore(room, start).stage is not None:
+            _restore_locked(room, None, named, start, starts)
+    if backup:
+        with taken_from(room, backups.find(room, backup)) as taken, locks.lock(room.unit, 60):
+            _restore_locked(room, taken, named, start, starts)
+
+
+def _restore_locked(room: Room, taken: Taken | None, named: str, start: bool, starts: bool) -> None:
+    if not start:
+        refuse_while_served(room)
+    task = Restore(room, start)
+    if task.stage is None and not taken:
+        _tell_nothing(room, named)
+    try:
+        if task.stage is not None or not taken:
+            task.stop_server()
+            refuse_while_served(room)
+            task.settle("an earlier restore")
+        if taken:
+            task.restore(taken, named, starts)
+    except (Stop, OSError) as stop:
+        report.ignore_signals()
+        if task.own:
+            if isinstance(stop, Interrupted):
+                say("interrupted")
+            task.settle("this restore")
+        raise
+    finally:
+        report.ignore_signals()
+        if task.dates:
+            task.dates.end()
+        task.start_server()
+
+
+def _tell_nothing(room: Room, named: str) -> None:
+    """Whoever means a restore that was done to its end has to name what it left."""
+    kept = max((f"{room.folder}/{name}" for name in os.listdir(room.folder)
+                if _BEFORE.fullmatch(name)
+                and os.path.lexists(f"{room.folder}/{name}/{room.base}")), default="")
+    say(f"nothing to undo: no restore of {room.name} was cut off" +
+        (f"; to go back behind the last one: rooms-admin restore {named}--start {kept}"
+         if kept else ""))
 
 
 def would_restore(conf: str, backup: str, start: bool) -> None:
     """The backup is verified as it would be; nothing is stopped, and nothing changes."""
     room = settings.room(conf)
-    with locks.lock(room.unit, 0):
-        found = backups.find(room, backup)
-        with private_server.private_copy(room, found) as copied:
-            verified(room, copied, found)
+    found = backups.find(room, backup)
+    with private_server.private_copy(room, found) as copied:
+        verified(room, copied, found)
     print(f"would: restored {room.file} from {found}")
     if start:
         print(f"would: {room.unit} is stopped for a moment, and started")

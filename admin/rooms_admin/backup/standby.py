@@ -75,20 +75,6 @@ def _take_place(room: Room, own: str, part: str) -> None:
         os.fsync(target)
 
 
-def _remove_former(room: Room) -> None:
-    """The last copy of an earlier version, which had it in BACKUPS itself."""
-    former = os.path.join(room.backups, "standby")
-    if former == os.path.join(backups.folder(room), "standby"):
-        return
-    try:
-        for end in ("", "-wal"):
-            if os.path.lexists(f"{former}/{room.base}{end}"):
-                os.unlink(f"{former}/{room.base}{end}")
-        os.rmdir(former)
-    except OSError:
-        pass  # It has another room's, or there is none.
-
-
 def send(room: Room) -> None:
     """The time isn't asked, which may have been set back. A large room takes as long as its way
     does; rsync itself ends where that is dead."""
@@ -115,7 +101,6 @@ def make(room: Room) -> None:
             copied = copy(room, own)
             if copied is not None:
                 keep(room, copied, own, part)
-                _remove_former(room)
                 try:
                     send(room)
                 finally:

@@ -4,11 +4,12 @@ import csv
 import io
 import os
 import tempfile
+import time
 from collections.abc import Iterable, Iterator
 from contextlib import ExitStack, contextmanager
 from typing import IO
 
-from ..host import safe, tempdirs
+from ..host import taken, tempdirs
 from ..room import private_server, program
 from . import backups
 from ..cli.report import Stop, say
@@ -18,21 +19,25 @@ LISTS, REVIEW, RECORDS = "lists.txt", "review.csv", "records.csv"
 # By which words the program prints each.
 PRINTED: dict[str, tuple[str, ...]] = {RECORDS: ("audit",), LISTS: ("dump",),
                                        REVIEW: ("review", "/")}
+# Bytes of a review: it has a row of each name in lists at each folder with a list of its own, so
+# whoever manages a folder could have each night write, and read, more than there is space for.
+_MOST_OF_REVIEW = 32 << 20
 # After moves a path may be longer than any request can name.
 csv.field_size_limit(1 << 24)
 
 
 @contextmanager
 def beside(room: Room, folder: str, name: str) -> Iterator[IO[bytes]]:
-    """A text of the backup in a folder, which nobody but root has written."""
+    """A text of the backup in a folder, which nobody but root has written, as a file of this run's
+    own: who reads it waits for no disk of backups. Its time is the text's, or the backup's."""
     place = os.path.join(folder, name)
     with ExitStack() as owned:
         source: IO[bytes]
         try:
-            source = owned.enter_context(safe.own_file(place))
+            source = owned.enter_context(taken.file(place))
         except FileNotFoundError:
             say(f"{place} isn't there, so it is made now")
-            source = owned.enter_context(_made(room, folder, PRINTED[name]))
+            source = owned.enter_context(_made(room, folder, name))
         yield source
 
 
@@ -43,14 +48,22 @@ def of_last(room: Room, name: str) -> Iterator[IO[bytes]]:
         yield source
 
 
+def most_of(name: str) -> int:
+    """How many bytes the program may write of a text; 0 is as many as of any."""
+    return _MOST_OF_REVIEW if name == REVIEW else 0
+
+
 @contextmanager
-def _made(room: Room, folder: str, words: tuple[str, ...]) -> Iterator[IO[bytes]]:
+def _made(room: Room, folder: str, name: str) -> Iterator[IO[bytes]]:
     """In a file without a name, so a kill leaves none."""
     with private_server.private_copy(room, folder) as copied, \
             tempfile.TemporaryFile(dir=tempdirs.place()) as made:
+        words = PRINTED[name]
         status, _, text = program.on_copy(room, copied, [*words], program.enough(room, copied),
-                                          made.fileno())
+                                          made.fileno(), most=most_of(name))
         made.seek(0)
+        at = min(backups.moments(os.path.basename(folder)), default=time.time())
+        os.utime(made.fileno(), (at, at))
         if status != 0:
             raise Stop(f"{words[0]} of the copy failed, status {status}: "
                        f"{text or made.read(300).decode(errors='replace').strip()}")

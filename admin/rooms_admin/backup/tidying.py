@@ -4,12 +4,14 @@ import os
 import shutil
 
 from ..host import safe
-from . import backups, texts
+from . import backups, dates, texts
 from ..room.keep import Keep
 from ..room.settings import Room
 from .backups import Backup
 
-_TEXTS = (texts.RECORDS, texts.LISTS, texts.REVIEW, "machine.tar", "verdict", backups.RUN)
+# What is beside a room's two files, also while it is written. An earlier version had a verdict.
+_BESIDE = (texts.RECORDS, texts.LISTS, texts.REVIEW, "machine.tar", "verdict", backups.RUN,
+           dates.KEPT, dates.FRESH)
 
 
 def remove_unfinished(place: str) -> None:
@@ -21,9 +23,13 @@ def remove_unfinished(place: str) -> None:
 
 
 def remove(room: Room, place: str, why: str) -> str:
-    """What hindered that, if anything did."""
+    """What hindered that, if anything did. It has no backup's name from the beginning: where this
+    is cut off, the next run goes on."""
     try:
-        for name in (room.base, room.base + "-wal", *_TEXTS):
+        if not place.endswith(".part"):
+            os.rename(place, f"{place}.part")
+            place += ".part"
+        for name in (room.base, room.base + "-wal", *_BESIDE):
             if os.path.lexists(f"{place}/{name}"):
                 os.unlink(f"{place}/{name}")
         remove_unfinished(place)
@@ -31,6 +37,15 @@ def remove(room: Room, place: str, why: str) -> str:
         return ""
     except OSError:
         return f"{place} can't be removed: it {why}"
+
+
+def ahead(before: list[Backup], keep: Keep, date: str) -> str:
+    """Whether the clock may be so: weeks, months and years that have not been would have others go.
+    Returns what is told of it."""
+    last, now = backups.day(before[-1].name) if before else None, backups.day(date)
+    if not keep.goes_by_dates or last is None or now is None or now - last <= backups.TRUSTED:
+        return ""
+    return f"the clock says {now}, and the last backup before is of {last}"
 
 
 def beyond(before: list[Backup], keep: Keep, date: str) -> list[Backup]:
@@ -70,8 +85,8 @@ def _left_at(room: Room, place: str, is_own: bool) -> list[str]:
     dated = place.removesuffix(".part")
     with safe.opened(safe.own_folder(place)) as within:
         inside = set(os.listdir(within))
-    ours = {room.base, room.base + "-wal", *_TEXTS, "unfinished"}
-    if place != dated and inside <= ours and (room.base in inside or (is_own and not inside)):
+    ours = {room.base, room.base + "-wal", *_BESIDE, "unfinished"}
+    if place != dated and inside <= ours and (room.base in inside or is_own):
         return [remove(room, place, "has more in it than a copy"),
                 f"interrupted: an earlier run was cut off, and left no backup of "
                 f"{os.path.basename(dated)}; what it had copied is removed"]

@@ -4,9 +4,9 @@ import pwd
 import shlex
 
 from ..cli import report
-from ..host import as_user
+from ..host import as_user, commands
 from ..room import settings
-from . import holders
+from . import front, holders
 
 
 class Doctor:
@@ -40,8 +40,8 @@ class Doctor:
             elif not os.path.isdir(way):
                 self.cause("no file", f"{way} isn't a folder")
             elif not self.may(way, os.X_OK):
-                self.cause("permission", f"{self.user.pw_name} can't enter the folder {way}: "
-                           "chmod, chown")
+                self.cause("permission", f"{self.user.pw_name} can't enter the folder {way}: is "
+                           "the name right? chmod, chown where it is the room's own")
             else:
                 continue
             return False
@@ -60,6 +60,9 @@ class Doctor:
             if os.path.exists(self.file + "-wal"):
                 self.cause("no file", f"its log {self.file}-wal is alone there: keep it until the "
                            "file is back")
+        elif os.path.islink(self.file):
+            self.cause("not a room", f"{self.file} is a link, which no backup follows: FILE in "
+                       f"{settings.HOME}/*.conf has to name the file itself")
         elif not os.path.isfile(self.file):
             self.cause("not a room", f"{self.file} is no file")
         else:
@@ -95,12 +98,17 @@ class Doctor:
     def look_at_rights(self) -> None:
         who = self.user.pw_name
         for each in (self.folder, self.file, self.file + "-wal"):
-            if not os.path.exists(each):
+            if not os.path.lexists(each):
                 continue
             quoted = shlex.quote(each)
-            if os.stat(each).st_uid != self.user.pw_uid:
+            # The room's user may put a link in the place of each but the folder, and what it leads
+            # to is given to nobody.
+            is_theirs = each != self.folder
+            if is_theirs and os.path.islink(each):
+                self.cause("not a room", f"{each} is a link, and no log: rm {quoted}")
+            elif os.stat(each).st_uid != self.user.pw_uid:
                 self.cause("owner", f"{each} belongs to {holders.owner_of(each)}, and not to "
-                           f"{who}: chown {who}: {quoted}")
+                           f"{who}: chown {'-h ' * is_theirs}{who}: {quoted}")
             elif not self.may(each, os.R_OK):
                 self.cause("permission", f"{who} can't read {each}: chmod u+rw {quoted}")
             elif not self.fixed and not self.may(each, os.W_OK):
@@ -146,11 +154,14 @@ class Doctor:
                 self.cause(what, f"writing into {self.folder} fails: {said}; dmesg says more")
 
     def look_at_kind(self) -> bool:
-        """By its beginning, which the room's user reads."""
-        for what, text in self.as_user(lambda: as_user.kind(self.file)):
+        """By its beginning, which the room's user reads; or this one, what that user can't: nobody
+        is told to give away another file."""
+        found = self.as_user(lambda: as_user.kind(self.file))
+        if not found and not self.may(self.file, os.R_OK):
+            found = as_user.kind(self.file)
+        for what, text in found[:1]:
             self.cause(what, text)
-            return False
-        return True
+        return not found
 
     def look_inside(self) -> None:
         with as_user.own_folder(self.user) as place:
@@ -158,17 +169,32 @@ class Doctor:
                     lambda: as_user.verify(self.program, self.file, place)):
                 self.cause(what, text)
 
+    def look_at_front(self) -> None:
+        """Of a room that settings name: nginx shows no other."""
+        if not holders.rooms_of(self.file):
+            return
+        try:
+            said = front.refusal()
+        except commands.Slow as slow:
+            said = str(slow)
+        if said:
+            self.cause("front end", said)
+
     def look(self) -> str:
         """All of it; by whom it is served."""
         served = ""
         if self.look_at_way() and self.look_at_file():
+            # First, so that no other file, such as one of the system, is given to the room's user.
+            is_room = self.look_at_kind()
             self.look_at_mount()
             self.look_at_unit()
-            self.look_at_rights()
+            if is_room:
+                self.look_at_rights()
             served = self.look_at_processes()
             self.look_at_space()
-            if self.look_at_kind() and not served:
+            if is_room and not served:
                 self.look_inside()
+        self.look_at_front()
         return served
 
     def run(self, as_rows: bool) -> int:

@@ -1,4 +1,4 @@
-"""What `check` looks at: each look gives findings, which are levels and texts."""
+"""What `check` looks at of a room, and of what runs beside it."""
 import base64
 import glob
 import http.client
@@ -7,29 +7,25 @@ import pwd
 import re
 import secrets
 import shutil
-import socket
-import ssl
 import time
 from collections.abc import Callable
 
 from ..host import root, waiting
 from ..room import awaited, limit, needs, server, settings
 from ..backup import backups, dates, for_search, growth, hours
-from ..site import apache, certificates, connections, template
+from ..site import apache, certificates, served, template
 from ..cli.report import Refused, Stop
 from ..host.commands import printed
 from ..room.settings import Room
 from ..room.size import NoRoom, Used
+from .finding import CRITICAL, OK, WARNING, Finding
+from .front import see_front
 
-OK, WARNING, CRITICAL = 0, 1, 2
-Finding = tuple[int, str]
 HOUR = 3600
 # Seconds. Whoever a server or nginx is by now could answer so slowly that it never ends.
 PATIENCE = 150
 # Less than this is a full disk: twice the largest document, in the log and on its way.
 FULL = 16 << 20
-# What Debian's nginx.conf has, and docs/capacity.md counts on.
-CONNECTIONS = 768
 # The clocks of a disk and of the machine may differ by so much.
 AHEAD = 120
 # So many megabytes of lines about changes: a day of an office has less than one.
@@ -39,12 +35,6 @@ SOON = 8
 # Where rooms-nights.service may not look.
 UNSEEN = ("/dev", "/etc", "/home", "/proc", "/root", "/run", "/sys", "/tmp", "/var/lib", "/var/log",
           "/var/mail", "/var/spool", "/var/tmp")
-# Only tests set another address of nginx.
-FRONT = os.environ.get("ROOMS_FRONT", "127.0.0.1")
-# What nginx says where it does its part: it asks for a password, or sends on to where it does.
-_ASKS = (200, 301, 302, 303, 307, 308, 401, 403, 429)
-_POLICY = "default-src 'none'; script-src 'self'; "
-_REALM = re.compile(r'Basic realm="rooms(-[a-z0-9-]+)?"', re.ASCII)
 
 
 def within(seconds: float, look: Callable[[], list[Finding]], what: str) -> list[Finding]:
@@ -64,9 +54,10 @@ def within(seconds: float, look: Callable[[], list[Finding]], what: str) -> list
 
 
 def see_owner(room: Room) -> list[Finding]:
-    """A file that was made as root: all seems well until its server wants to open it."""
-    if os.path.exists(room.file) and os.stat(room.file).st_uid != room.owner:
-        return [(CRITICAL, f"{room.file} isn't its server's, which can't open it: chown "
+    """A file that was made as root: all seems well until its server wants to open it. Beside it may
+    be links to files of others, which aren't to be given away."""
+    if os.path.exists(room.file) and os.lstat(room.file).st_uid != room.owner:
+        return [(CRITICAL, f"{room.file} isn't its server's, which can't open it: chown -h "
                  f"--reference={room.folder} {room.file}*")]
     return []
 
@@ -96,79 +87,6 @@ def see_journal(room: Room) -> list[Finding]:
     megabytes = dates.journal(room) // 1_000_000
     return [(WARNING, f"its journal of changes has {megabytes} MB: systemctl status "
              f"rooms-door@{room.name}")] if megabytes >= GROWN else []
-
-
-def _place(room: Room) -> tuple[str, str] | None:
-    """The host and the path at which nginx shows a room, if it does. Beside other sites its names
-    tell ours, so it is asked by one."""
-    name = room.name
-    if room.behind or room.unit != f"rooms@{name}":
-        return None
-    if room.host:
-        return room.host, "/"
-    file = root.ROOT + template.SETTINGS
-    host = settings.front(file).hosts[0] if os.path.exists(file) else ""
-    return host, "/" if name == "office" else f"/{name}/"
-
-
-class _Named(http.client.HTTPSConnection):
-    """This machine, by the name of a site. Its certificate is looked at by itself."""
-
-    def __init__(self, host: str) -> None:
-        super().__init__(FRONT, timeout=20)
-        self.named = host
-
-    def connect(self) -> None:
-        context = ssl.create_default_context()
-        context.check_hostname = False
-        context.verify_mode = ssl.CERT_NONE
-        plain = socket.create_connection((self.host, self.port), timeout=20)
-        self.sock = context.wrap_socket(plain, server_hostname=self.named.strip("[]") or None)
-
-
-def _is_ours(got: http.client.HTTPResponse) -> bool:
-    """Our site has this policy on each page of its own, and asks for passwords of rooms."""
-    return (got.headers.get("Content-Security-Policy", "").startswith(_POLICY)
-            or _REALM.match(got.headers.get("WWW-Authenticate", "")) is not None)
-
-
-def see_front(room: Room) -> list[Finding]:
-    """Through nginx, as far as one gets without a password: it listens, knows the room's place, and
-    asks for a password. Beyond that its files have to say where the room is."""
-    place = _place(room)
-    if place is None:
-        return []
-    if not _passes_on(room):
-        return [(CRITICAL, "nginx passes nothing on to its socket")]
-    for asked in (http.client.HTTPConnection(FRONT, timeout=20), _Named(place[0])):
-        try:
-            asked.request("GET", place[1] + "can/?", headers={
-                "Connection": "close", **({"Host": place[0]} if place[0] else {})})
-            got = asked.getresponse()
-            got.read(1 << 16)
-            ours = _is_ours(got)
-            if got.status not in _ASKS:
-                return [(CRITICAL, f"nginx answers {got.status} for it")]
-            if ours:
-                return [(OK, "nginx answers")]
-            if got.status < 300 or got.status > 399:
-                break
-        except (OSError, http.client.HTTPException) as fault:
-            return [(CRITICAL, f"nginx doesn't answer: {fault}")]
-        finally:
-            asked.close()
-    return [(CRITICAL, f"another site of nginx's answers for {place[0]}: HOSTS in /etc/rooms/site "
-             "names those of the rooms; then rooms-admin setup")]
-
-
-def _passes_on(room: Room) -> bool:
-    where = re.escape(f"unix:/run/rooms/{room.name}/socket")
-    try:
-        with open(f"{root.ROOT}/etc/nginx/sites-enabled/rooms", encoding="utf-8",
-                  errors="replace") as source:
-            return re.search(rf"{where}\b", source.read(), re.ASCII) is not None
-    except OSError:
-        return False
 
 
 def see_disk(room: Room) -> list[Finding]:
@@ -424,44 +342,9 @@ def see_units() -> list[Finding]:
     said = printed(["systemctl", "list-units", "--state=failed", "--plain", "--no-legend",
                     "rooms*"])
     failed = [line.split()[0] for line in said.splitlines() if line.split()]
-    return [(CRITICAL, f"failed: {' '.join(sorted(failed))}")] if failed else []
-
-
-def see_connections() -> list[Finding]:
-    """How many connections nginx holds for each of its processes, where it shows rooms; and whether
-    no address can take them all."""
-    nginx = f"{root.ROOT}/etc/nginx"
-    if not (os.path.lexists(f"{nginx}/sites-enabled/rooms")
-            and os.path.exists(f"{nginx}/nginx.conf")):
-        return []
-    found: list[Finding] = []
-    held = connections.of_process(root.ROOT)
-    if held < CONNECTIONS:
-        found.append((WARNING, f"nginx holds {held} connections for each of its processes, less "
-                      f"than the {CONNECTIONS} of Debian: worker_connections in "
-                      "/etc/nginx/nginx.conf"))
-    if os.path.exists(root.ROOT + connections.FILE) and printed(
-            ["systemctl", "is-active", connections.UNIT]) != "active":
-        found.append((WARNING, "one address can take all connections of nginx's, and keep others "
-                      f"out: systemctl restart {connections.UNIT.removesuffix('.service')}"))
-    return found or [(OK, "")]
-
-
-def see_tls() -> list[Finding]:
-    """A site that has none, unless somebody has said that it is meant so."""
-    file = root.ROOT + template.SETTINGS
-    if not (os.path.exists(file)
-            and os.path.lexists(f"{root.ROOT}/etc/nginx/sites-enabled/rooms")):
-        return []
-    try:
-        front = settings.front(file)
-    except Refused:
-        # That is told by the look at its certificate.
-        return []
-    if front.certificate or front.unencrypted:
-        return []
-    return [(WARNING, "passwords and documents travel unencrypted: rooms-admin setup --tls, or "
-             f"UNENCRYPTED=yes in {template.SETTINGS} if that is meant")]
+    # One that no timer starts again stays so, whatever is mended.
+    return [(CRITICAL, f"failed: {' '.join(sorted(failed))}: systemctl status says why; once that "
+             "is mended: systemctl reset-failed")] if failed else []
 
 
 def see_certificates() -> list[Finding]:
@@ -479,7 +362,9 @@ def see_certificates() -> list[Finding]:
                    if name.endswith(".pem")]
     except OSError:
         pass
-    return [certificates.see_certificate(file) for file in wanted]
+    return [*map(certificates.see_certificate, wanted),
+            *((WARNING, said) for file in certificates.site_certificates()
+              for said in (served.see_names(file), served.see_renewal(file)) if said)]
 
 
 def of_room(conf: str) -> list[Finding]:

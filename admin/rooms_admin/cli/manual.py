@@ -13,7 +13,7 @@ _STATUS = "0 done, 1 something failed or was left out, 2 refused, and nothing wa
 
 
 def module_of(verb: str) -> ModuleType:
-    return import_module(f"rooms_admin.verbs.{table.module_of(verb)}")
+    return import_module(table.module_of(verb))
 
 
 def _about(one: argparse.Action) -> str:

@@ -6,6 +6,7 @@ import sys
 import types
 from collections.abc import Iterator, Mapping, Sequence
 from contextlib import contextmanager
+from typing import Any
 
 from .signs import is_seen
 
@@ -50,9 +51,10 @@ def _interrupt(_number: int, _frame: types.FrameType | None) -> None:
 _ENDING = (signal.SIGTERM, signal.SIGINT, signal.SIGHUP)
 
 
-def catch_signals() -> None:
+def catch_signals(how: Any = _interrupt) -> None:
+    """Those that end a verb."""
     for one in _ENDING:
-        signal.signal(one, _interrupt)
+        signal.signal(one, how)
 
 
 def ignore_signals() -> None:

@@ -1,6 +1,5 @@
 """The verbs by what they are for, and what each does. Its arguments, and all that help says of it,
-stand in the module that is called as the verb, with '_' behind a word of Python."""
-import keyword
+stand in verb_NAME.py, in the folder of what it is about."""
 
 KINDS: dict[str, dict[str, str]] = {
     "people": {
@@ -58,5 +57,18 @@ OLD = {"rooms-export": "export", "rooms-import": "import", "rooms-handover": "ha
        "rooms-setup": "setup", "rooms-add": "add", "rooms-doctor": "doctor"}
 
 
+_FOLDERS = {
+    "backup": {"backup", "backups", "get", "latest", "restore", "standby"},
+    "check": {"check", "doctor", "tell"},
+    "directory": {"groups"},
+    "lists": {"list", "lists", "records", "who", "would"},
+    "people": {"handover", "members", "mine", "people", "until", "user"},
+    "room": {"await", "full", "rooms"},
+    "site": {"add", "certificate", "remove", "set", "setup"},
+    "transfer": {"export", "import"},
+}
+
+
 def module_of(verb: str) -> str:
-    return f"{verb}_" if keyword.iskeyword(verb) else verb
+    folder = next(name for name, verbs in _FOLDERS.items() if verb in verbs)
+    return f"rooms_admin.{folder}.verb_{verb}"

@@ -189,6 +189,13 @@ def dry_run(parser: argparse._ActionsContainer, what: str) -> None:
     flag(parser, "--dry-run", f"print {what}, and change nothing")
 
 
+def image(parser: Parser) -> None:
+    """Of a verb that changes a machine."""
+    dry_run(parser, "what would be done")
+    option(parser, "--destdir", "DIR", "change an image of a machine in this folder, and start "
+           "nothing")
+
+
 def rows(parser: Parser) -> None:
     """Of a verb whose findings a program may want."""
     flag(parser, "--json", "print a list of objects, for a program")

@@ -19,6 +19,8 @@ MEMORY = 256 << 20
 _CONNECTS = 20
 # As many letters of what the directory says of a fault are told.
 _TOLD = 300
+# Of a DN that is taken apart, for which the library takes the square of its time.
+_LONGEST = 8000
 
 
 class NoSuchEntry(Exception):
@@ -43,8 +45,8 @@ class Link:
                               (ldap.OPT_TIMEOUT, where.wait),
                               (ldap.OPT_X_TLS_REQUIRE_CERT, ldap.OPT_X_TLS_DEMAND)):
             self._link.set_option(option, value)
-        if where.ca:
-            self._link.set_option(ldap.OPT_X_TLS_CACERTFILE, where.ca)
+        if where.authorities:
+            self._link.set_option(ldap.OPT_X_TLS_CACERTFILE, where.authorities)
         self._link.set_option(ldap.OPT_X_TLS_NEWCTX, 0)
         self._bound = False
 
@@ -134,6 +136,8 @@ class Directory:
 
     def key(self, dn: str) -> str:
         """The form in which two DNs are compared."""
+        if len(dn) > _LONGEST:
+            return dn.lower()
         try:
             return str(self._ldap.dn.dn2str(self._ldap.dn.str2dn(dn.lower())))
         except self._ldap.DECODING_ERROR:

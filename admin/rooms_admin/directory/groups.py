@@ -128,12 +128,14 @@ class Run:
         self.force = given.force
         self.owned = owned
         self.locked = False
+        self.newest = known.NOT_ASKED
         self.mark = server.left_at_rest(room)
         self.failures: list[str] = []
 
     def lock(self) -> None:
         """Only whoever has the lock stops and starts the server."""
         if not self.locked:
+            self.newest = known.newest_backup(self.room)
             self.owned.enter_context(locks.lock(self.room.unit, 60))
         self.locked = True
 
@@ -218,14 +220,14 @@ class Run:
         with ExitStack() as after, server.at_rest(self.room):
             now = members.read(self.room)
             # What is refused now is refused without a stop the next time.
-            after.callback(known.try_to_keep, self.room, known.here(self.room, now))
+            after.callback(known.try_to_keep, self.room, known.here(self.room, now, self.newest))
             coming, going, others = compare(now, wanted, groups)
             self.guard(going, len(others | wanted), most)
             change = Change(now, coming, going)
             if not change.is_none:
                 after.pop_all()
                 then = known.change(self.room, now, coming, going)
-                after.callback(self.tell, change, known.here(self.room, then))
+                after.callback(self.tell, change, known.here(self.room, then, self.newest))
 
     def tell(self, change: Change, then: Known) -> None:
         show(change)
@@ -273,10 +275,11 @@ def work(task: Run, given: argparse.Namespace) -> int:
     # The mark of a run that is at work, which has the lock, or of one that was cut off.
     cut_off = os.path.exists(task.mark)
     if cut_off and not (given.dry_run or given.names):
-        task.lock()
-        cut_off = os.path.exists(task.mark)
-        if cut_off:
-            server.start_again(task.room)
+        # The directory is asked later, and nobody waits for that.
+        with locks.lock(task.room.unit, 60):
+            cut_off = os.path.exists(task.mark)
+            if cut_off:
+                server.start_again(task.room)
     if given.after:
         if cut_off:
             raise Stop(f"interrupted: a run that had stopped {task.room.unit} was cut off; "

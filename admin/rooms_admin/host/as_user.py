@@ -5,11 +5,12 @@ import json
 import os
 import pwd
 import shutil
+import signal
 import sqlite3
 import sys
 import tempfile
 from collections.abc import Callable, Iterator
-from contextlib import closing, contextmanager
+from contextlib import closing, contextmanager, suppress
 
 from . import commands, tempdirs
 
@@ -28,6 +29,8 @@ def as_user(user: pwd.struct_passwd, work: Work) -> list[list[str]]:
     if child == 0:
         try:
             if os.getuid() != user.pw_uid:
+                # What it begins has no terminal, where whoever else is that user could type by it.
+                os.setsid()
                 os.setgroups([])
                 os.setresgid(user.pw_gid, user.pw_gid, user.pw_gid)
                 os.setresuid(user.pw_uid, user.pw_uid, user.pw_uid)
@@ -38,8 +41,14 @@ def as_user(user: pwd.struct_passwd, work: Work) -> list[list[str]]:
         finally:
             os._exit(1)
     os.close(theirs)
-    with os.fdopen(ours, "rb") as source:
-        text = source.read(1 << 20)
+    try:
+        with os.fdopen(ours, "rb") as source:
+            text = source.read(1 << 20)
+    except BaseException:
+        # No key of the terminal ends it.
+        with suppress(ProcessLookupError):
+            os.killpg(child, signal.SIGKILL)
+        raise
     status = os.waitpid(child, 0)[1]
     if status != 0:
         return [["unknown", f"a process of {user.pw_name} ended, status {status}"]]
@@ -74,8 +83,8 @@ def _of_fault(fault: OSError) -> list[str]:
 
 
 def _at_once(file: str, flags: int) -> int:
-    """A pipe keeps nobody waiting."""
-    return os.open(file, flags | os.O_NONBLOCK)
+    """A pipe keeps nobody waiting, and a link leads nowhere, whoever looks."""
+    return os.open(file, flags | os.O_NONBLOCK | os.O_NOFOLLOW)
 
 
 def kind(file: str) -> list[list[str]]:
@@ -84,7 +93,7 @@ def kind(file: str) -> list[list[str]]:
             head = source.read(16)
     except OSError as fault:
         if fault.errno in (errno.EACCES, errno.EPERM):
-            return []  # That was told already.
+            return []  # That is told of its rights.
         return [["disk", f"it can't be read: {fault.strerror}; dmesg says more. Restore a backup "
                  "to another disk"]]
     if not head:

@@ -2,6 +2,7 @@
 put back if nginx doesn't take it."""
 import os
 import pwd
+import re
 import shutil
 import stat
 from grp import getgrnam
@@ -13,6 +14,8 @@ from ..cli.report import Refused, Stop
 NGINX = "www-data"
 # The user of the Apaches that check passwords, who reaches no room.
 CHECKER = "rooms-passwords"
+# Where nginx logs to standard error, as Debian's, it has the time and its number in the line.
+_FAULT = re.compile(r"\[(?:emerg|alert|crit|error)\] (?:[0-9]+#[0-9]+: )?(.+)")
 
 
 class Changes:
@@ -122,9 +125,9 @@ class Changes:
         return True
 
     def remove_folder(self, path: str) -> None:
-        """With all that is in it. It doesn't come back."""
+        """With all that is in it, whatever whoever had it made there. It doesn't come back."""
         if os.path.isdir(self.root + path) and self.does(f"{path} is removed"):
-            shutil.rmtree(self.root + path)
+            safe.remove_folder(self.root + path)
 
     def rename(self, path: str, to: str, why: str) -> None:
         if self.does(f"{path} is now {to}{why}"):
@@ -163,11 +166,19 @@ def run(*words: str, check: bool = True) -> tuple[int, str]:
 
 
 def nginx_refuses() -> str:
-    """What nginx says against its files."""
-    if not shutil.which("nginx"):
-        return ""
+    """What nginx says against its files, or that it can't be waited for."""
     try:
-        status, said = run("nginx", "-t", "-q", check=False)
+        return nginx_says(commands.SECONDS)
     except commands.Slow as slow:
         return str(slow)
-    return said or "it says nothing" if status else ""
+
+
+def nginx_says(seconds: float) -> str:
+    """What nginx says first against its files, but for what it goes on with."""
+    if not shutil.which("nginx"):
+        return ""
+    done = commands.together(["nginx", "-t", "-q"], seconds)
+    if done.status == 0:
+        return ""
+    found = _FAULT.search(done.out)
+    return found[1] if found else (done.out.splitlines() or ["it says nothing"])[0]

@@ -109,9 +109,10 @@ def started(words: Sequence[str | bytes], before: Callable[[], None], who: Who |
             stdin: int = PIPE, stdout: int = PIPE, pass_fds: tuple[int, ...] = (),
             cwd: str | None = None, umask: int = 0o077) -> Child:
     """One that goes on beside this process, which looks after it: `before` is done in it first. Its
-    folder is entered before it becomes another user, who need not get there."""
+    folder is entered before it becomes another user, who need not get there. That one has no
+    terminal: whoever else is that user could type there by it."""
     how: dict[str, Any] = {}
     if who is not None:
-        how = {"user": who.user, "group": who.group, "extra_groups": []}
+        how = {"user": who.user, "group": who.group, "extra_groups": [], "start_new_session": True}
     return subprocess.Popen(words, stdin=stdin, stdout=stdout, stderr=subprocess.PIPE, umask=umask,
                             preexec_fn=before, pass_fds=pass_fds, cwd=cwd, env=_ours(), **how)

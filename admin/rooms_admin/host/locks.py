@@ -14,6 +14,10 @@ RUN = os.environ.get("ROOMS_RUN", "/run")
 FOLDER = os.path.join(RUN, ".rooms-admin" if "ROOMS_RUN" in os.environ else "rooms-admin")
 
 
+# Seconds.
+_MOMENT = 0.2
+
+
 class Busy(Refused):
     """Another verb is at work."""
 
@@ -32,10 +36,24 @@ def taken(number: int, seconds: float) -> bool:
             time.sleep(0.02)
 
 
-@contextmanager
-def lock(name: str, seconds: float, folder: str = FOLDER) -> Iterator[None]:
-    """`name` is a unit such as rooms@office, or 'machine'. It ends with the process, whatever
-    happens to that; no child gets it, since Python closes what a child isn't given."""
+def _in_turn(number: int, first: int, seconds: float) -> bool:
+    """Whom sudo has called lets the others go first, who have `first` while they wait: so whoever
+    may call verbs by it keeps no night from its backup, however often they do. Who waits for
+    nothing gives those a moment to let go of it."""
+    ends = time.monotonic() + seconds
+    if "SUDO_USER" not in os.environ:
+        return taken(first, max(seconds, _MOMENT)) and taken(number, ends - time.monotonic())
+    while True:
+        if taken(first, 0):
+            if taken(number, 0):
+                return True
+            fcntl.flock(first, fcntl.LOCK_UN)
+        if time.monotonic() >= ends:
+            return False
+        time.sleep(0.02)
+
+
+def _opened(folder: str, *names: str) -> list[int]:
     try:
         os.makedirs(folder, 0o700, exist_ok=True)
         at = os.open(folder, os.O_RDONLY | os.O_DIRECTORY | os.O_NOFOLLOW | os.O_CLOEXEC)
@@ -45,13 +63,23 @@ def lock(name: str, seconds: float, folder: str = FOLDER) -> Iterator[None]:
         seen = os.fstat(at)
         if seen.st_uid != os.geteuid() or stat.S_IMODE(seen.st_mode) & 0o077:
             raise Refused(f"no lock: {folder} isn't closed to others: rm -r {folder}")
-        number = os.open(name, os.O_RDWR | os.O_CREAT | os.O_NOFOLLOW | os.O_CLOEXEC, 0o600,
-                         dir_fd=at)
+        return [os.open(name, os.O_RDWR | os.O_CREAT | os.O_NOFOLLOW | os.O_CLOEXEC, 0o600,
+                        dir_fd=at) for name in names]
     finally:
         os.close(at)
+
+
+@contextmanager
+def lock(name: str, seconds: float, folder: str = FOLDER) -> Iterator[None]:
+    """`name` is a unit such as rooms@office, or 'machine'. It ends with the process, whatever
+    happens to that; no child gets it, since Python closes what a child isn't given."""
+    number, first = _opened(folder, name, f"{name}.first")
     try:
-        if not taken(number, seconds):
-            raise Busy(f"busy: another verb of rooms-admin is at work with {name}")
+        try:
+            if not _in_turn(number, first, seconds):
+                raise Busy(f"busy: another verb of rooms-admin is at work with {name}")
+        finally:
+            os.close(first)
         yield
     finally:
         os.close(number)

@@ -8,6 +8,9 @@ from ..cli import report
 # Loaded before any child begins, which then only calls it.
 _LIBC = ctypes.CDLL(None)
 _ENDS_WITH_PARENT, _GETS_ORPHANS, _AMBIENT, _CLEAR_ALL = 1, 36, 47, 4
+# How many nanoseconds later than said a wait may end, as of any process; and the call by which a
+# process says when it comes to the disk.
+_LATE, _AT_MOST, _SET_TURN = 29, 50_000, 251
 
 
 def end_with_parent() -> None:
@@ -18,6 +21,13 @@ def end_with_parent() -> None:
 def hand_on_no_right() -> None:
     """For a child that need not have what its parent's unit allows that one."""
     _LIBC.prctl(_AMBIENT, _CLEAR_ALL, 0, 0, 0)
+
+
+def wait_and_read_as_others() -> None:
+    """Whoever began this one may have let its waits end years later, or its reading and writing
+    come behind that of all others."""
+    _LIBC.prctl(_LATE, ctypes.c_ulong(_AT_MOST))
+    _LIBC.syscall(_SET_TURN, 1, 0, 0)
 
 
 def adopt_orphans() -> None:
@@ -59,6 +69,16 @@ def keep_files(*wanted: int) -> None:
         os.closerange(at, number)
         at = number + 1
     os.closerange(at, 1024)
+
+
+def say_nothing(*wanted: int) -> None:
+    """For a child that prints nothing, but for what these are: whoever reads what its parent prints
+    waits until nobody has that open, and one at a disk that hangs can't be ended."""
+    nothing = os.open(os.devnull, os.O_RDWR | os.O_CLOEXEC)
+    for number in {0, 1, 2}.difference(wanted):
+        os.dup2(nothing, number)
+    if nothing > 2:
+        os.close(nothing)
 
 
 def began(process: int) -> str:

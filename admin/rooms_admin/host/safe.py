@@ -5,12 +5,14 @@ import fcntl
 import os
 import secrets
 import stat
-from collections.abc import Iterable, Iterator
+from collections.abc import Callable, Iterable, Iterator
 from contextlib import contextmanager, suppress
 from typing import BinaryIO
 
 _FOLDER = os.O_RDONLY | os.O_DIRECTORY | os.O_CLOEXEC
 _CLONE = 0x40049409
+# So many bytes are copied at once.
+_PART = 16 << 20
 
 
 class NoFile(Exception):
@@ -111,11 +113,36 @@ def clone(source: int, target: int) -> bool:
         return False
 
 
-def copy_all(source: int, target: int) -> None:
-    """All of a file from where it is read, into one that is empty."""
-    if not clone(source, target):
-        while os.sendfile(target, source, None, 1 << 30):
-            pass
+def copy_all(source: int, target: int, goes_on: Callable[[], None] = lambda: None,
+             spare: int = 0) -> None:
+    """All of a file from where it is read, into one that is empty, whose disk has to have so many
+    bytes more. A clone takes none."""
+    size = os.fstat(source).st_size
+    left = size - os.lseek(source, 0, os.SEEK_CUR)
+    if clone(source, target):
+        return
+    if spare:
+        _need_space(target, size + spare)
+    while count := os.sendfile(target, source, None, _PART):
+        left -= count
+        goes_on()
+    need_all(left)
+
+
+def need_all(left: int) -> None:
+    """Of a room's log a part is a room too, as it was before: so what is left of a file is missed
+    here, and by nobody later."""
+    if left > 0:
+        raise OSError(errno.EIO, f"its disk gives {left} bytes less than it has")
+
+
+def _need_space(target: int, size: int) -> None:
+    disk = os.fstatvfs(target)
+    free = disk.f_bavail * disk.f_frsize
+    # A disk without a size of its own tells none.
+    if disk.f_blocks and free < size:
+        raise OSError(errno.ENOSPC, f"it needs {-(-size >> 20)} MB there, and {free >> 20} MB are "
+                                    "free")
 
 
 def read_at_most(number: int, most: int) -> bytes:
@@ -161,14 +188,19 @@ def put_file(path: str, data: bytes, mode: int, group: int = -1, owner: int = -1
             pass
         made = os.open(fresh, os.O_WRONLY | os.O_CREAT | os.O_EXCL | os.O_NOFOLLOW | os.O_CLOEXEC,
                        0o600, dir_fd=above)
-        with opened(made) as number:
-            write_all(number, data)
-            if (owner, group) != (-1, -1):
-                os.fchown(number, owner, group)
-            os.fchmod(number, mode)
-            if at is not None:
-                os.utime(number, (at, at))
-            os.fsync(number)
+        try:
+            with opened(made) as number:
+                write_all(number, data)
+                if (owner, group) != (-1, -1):
+                    os.fchown(number, owner, group)
+                os.fchmod(number, mode)
+                if at is not None:
+                    os.utime(number, (at, at))
+                os.fsync(number)
+        except OSError:
+            # On a full disk what is left of it would keep others from a change.
+            os.unlink(fresh, dir_fd=above)
+            raise
         os.rename(fresh, name, src_dir_fd=above, dst_dir_fd=above)
         os.fsync(above)
 

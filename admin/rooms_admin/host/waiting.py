@@ -28,38 +28,54 @@ class TooLarge(Stop):
 def answer(seconds: float, look: Callable[[], object], what: str) -> object:
     """What `look` found, which has a form in JSON; nothing if it failed. One whose disk hangs can't
     be ended, and isn't waited for."""
+    return steadily(seconds, lambda _goes_on: look(), what)
+
+
+def steadily(seconds: float, work: Callable[[Callable[[], None]], object], what: str,
+             *files: int) -> object:
+    """The same of work that may take long: it says that it goes on by calling what it is given, and
+    no two such calls may be further apart than these seconds. It has these open files."""
     ours, theirs = os.pipe()
     child = os.fork()
     if child == 0:
-        _look(theirs, look)
+        _look(theirs, work, files)
     os.close(theirs)
-    text, ends = b"", time.monotonic() + seconds
+    text, is_whole = b"", False
     try:
-        while select.select([ours], [], [], max(0.0, ends - time.monotonic()))[0]:
+        while select.select([ours], [], [], seconds)[0]:
             part = os.read(ours, 1 << 16)
             if not part:
-                os.waitpid(child, 0)
+                is_whole = True
                 return json.loads(text) if text else None
-            text += part
+            text = (text + part).lstrip()
     finally:
         os.close(ours)
-    os.kill(child, signal.SIGKILL)
-    os.waitpid(child, os.WNOHANG)
+        if not is_whole:
+            os.kill(child, signal.SIGKILL)
+        os.waitpid(child, 0 if is_whole else os.WNOHANG)
     raise Hangs(f"{what} doesn't answer within {seconds:.0f} s: does its disk hang?")
 
 
-def _look(theirs: int, look: Callable[[], object]) -> None:
-    """It never gets back to what called it. It has none of its files, so it keeps no lock."""
+def _look(theirs: int, work: Callable[[Callable[[], None]], object], files: tuple[int, ...]
+          ) -> None:
+    """It never gets back to what called it. It has none of its other files, so it keeps no lock,
+    and nobody waits for what it may print. A space before what it found says that it goes on."""
     try:
-        os.closerange(3, theirs)
-        os.closerange(theirs + 1, 1024)
-        signal.signal(signal.SIGTERM, signal.SIG_DFL)
-        text = json.dumps(look()).encode()
-        while text:
-            text = text[os.write(theirs, text):]
+        processes.keep_files(theirs, *files)
+        processes.say_nothing(theirs, *files)
+        processes.end_with_parent()
+        for one in (signal.SIGTERM, signal.SIGINT, signal.SIGHUP):
+            signal.signal(one, signal.SIG_DFL)
+        text = json.dumps(work(lambda: _put(theirs, b" "))).encode()
+        _put(theirs, text)
         os._exit(0)
     finally:
         os._exit(1)
+
+
+def _put(number: int, text: bytes) -> None:
+    while text:
+        text = text[os.write(number, text):]
 
 
 class Apart:
@@ -108,6 +124,7 @@ def _work(at: socket.socket, work: Callable[[Any], object], memory: int) -> None
             signal.signal(one, signal.SIG_DFL)
         processes.end_with_parent()
         processes.keep_files(at.fileno())
+        processes.say_nothing(at.fileno())
         # A library may leave out what it has no memory for: so an answer may take half of it.
         resource.setrlimit(resource.RLIMIT_DATA, (2 * memory, 2 * memory))
         with at.makefile("rb") as questions:

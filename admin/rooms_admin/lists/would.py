@@ -25,7 +25,8 @@ _BAD_TYPE, _NOT_FOUR = b":::", b"A:"
 _WIDEST = 60
 
 
-class Row(NamedTuple):
+class Outcome(NamedTuple):
+    """What a caller may do at an object, and then."""
     path: str
     kind: str
     user: str
@@ -132,7 +133,7 @@ def _way(path: bytes) -> Iterator[bytes]:
         yield path
 
 
-def answered(room: Room, asked: Question) -> list[Row]:
+def answered(room: Room, asked: Question) -> list[Outcome]:
     """The first is of the first object. Nothing of the room is needed."""
     status, out, said = program.on_text(room, "would", asked.text())
     text = out.decode("utf-8", "surrogateescape")
@@ -140,33 +141,33 @@ def answered(room: Room, asked: Question) -> list[Row]:
         raise asked.refused(int(found[1]), found[2])
     if status != 0:
         raise Stop(f"no answer: {said or text.strip()[:300] or f'status {status}'}")
-    return rows_of(asked, text)
+    return outcomes_of(asked, text)
 
 
-def rows_of(asked: Question, text: str) -> list[Row]:
+def outcomes_of(asked: Question, text: str) -> list[Outcome]:
     """Those of an answer, in order of name, also of what wasn't asked since it is alike."""
-    found = list(_rows(io.StringIO(text, newline="")))
-    found += [row._replace(path=place) for row in found for place in asked.alike.get(row.path, ())]
-    return sorted(found, key=lambda row: encoded(row.path).rstrip(b"/").split(b"/"))
+    found = list(_outcomes(io.StringIO(text, newline="")))
+    found += [one._replace(path=place) for one in found for place in asked.alike.get(one.path, ())]
+    return sorted(found, key=lambda one: encoded(one.path).rstrip(b"/").split(b"/"))
 
 
-def _rows(lines: Iterable[str]) -> Iterator[Row]:
+def _outcomes(lines: Iterable[str]) -> Iterator[Outcome]:
     for path, kind, user, rights, remove, then, then_remove in texts.fields(
             lines, _HEADER, "the answer"):
         if kind not in ("folder", "document") or not {remove, then_remove} <= {"yes", "no"} \
                 or not set(rights + then) <= names.RIGHTS or not is_caller(user):
             raise Stop(f"{_BAD}: {[kind, user, rights, remove, then, then_remove]!a}")
-        yield Row(names.path_in(path, _BAD), kind, user, rights, remove == "yes", then,
-                  then_remove == "yes")
+        yield Outcome(names.path_in(path, _BAD), kind, user, rights, remove == "yes", then,
+                      then_remove == "yes")
 
 
-def table(rows: Sequence[Row]) -> list[str]:
+def table(outcomes: Sequence[Outcome]) -> list[str]:
     """At the first object those for whom something changes. Further down all of them: each says
     something else than the one above it."""
-    cells = [(names.shown(encoded(row.path)), CALLED.get(row.user, report.line(row.user)),
-              _may(row.rights, row.remove),
-              "the same" if row.is_same else _may(row.then, row.then_remove))
-             for row in rows if not (row.is_same and row.path == rows[0].path)]
+    cells = [(names.shown(encoded(one.path)), CALLED.get(one.user, report.line(one.user)),
+              _may(one.rights, one.remove),
+              "the same" if one.is_same else _may(one.then, one.then_remove))
+             for one in outcomes if not (one.is_same and one.path == outcomes[0].path)]
     if not cells:
         return ["nobody gains or loses anything"]
     cells.insert(0, ("path", "who", "before", "then"))

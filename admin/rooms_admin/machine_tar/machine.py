@@ -1,6 +1,7 @@
 """What a machine has for its rooms beside them: settings, passwords, nginx's files, the
 certificate, what was added to units. A nightly run keeps it as machine.tar beside each backup."""
 import errno
+import glob
 import hashlib
 import io
 import os
@@ -11,7 +12,7 @@ from collections.abc import Iterator
 from contextlib import suppress
 from dataclasses import dataclass, field
 
-from ..host import safe
+from ..host import at_jobs, commands, safe
 from ..room import settings
 from ..passwords import passwords
 from ..site import certificates
@@ -26,6 +27,8 @@ OWN = re.compile(
     r"|etc/systemd/system/rooms[^/]*\.d/[^/]+\.conf|etc/letsencrypt/.+", re.ASCII | re.DOTALL)
 # Units that may be enabled again.
 ENABLED = re.compile(r"rooms[A-Za-z0-9:_.@-]*\.(service|socket|timer|path|target)", re.ASCII)
+# Bytes of a table of cron's.
+_TABLE = 1 << 16
 # What an editor, dpkg, an install or a restore leaves beside them.
 LEFT = re.compile(r"(\.(old|new|swp|dpkg-[a-z]+|rooms-restore)|~)$", re.ASCII)
 
@@ -89,7 +92,9 @@ def _packages() -> str:
     """Those that are installed."""
     rows = printed(["dpkg-query", "-W", "-f=${db:Status-Status} package ${Package} ${Version}\\n",
                     "rooms", "nginx", "apache2-bin", "apache2-utils", "openssl", "at", "certbot",
-                    "python3-ldap", "libapache2-mod-auth-gssapi", "libapache2-mod-auth-openidc"])
+                    "cron", "bsd-mailx", "logrotate", "openssh-client", "poppler-utils", "restic",
+                    "rsync", "sudo", "tesseract-ocr", "tesseract-ocr-*", "python3-ldap",
+                    "libapache2-mod-auth-gssapi", "libapache2-mod-auth-openidc"])
     return "".join(row.removeprefix("installed ") + "\n" for row in rows.splitlines()
                    if row.startswith("installed "))
 
@@ -105,12 +110,21 @@ def _about(version: str) -> str:
             f"date {time.strftime('%FT%TZ', time.gmtime())}\n\n"
             "What follows is to look at: no restore brings it back.\n")
     text += _packages() + _kept(["ip", "-brief", "address"])
-    for line in printed(["atq"]).splitlines():
-        job = line.split("\t")[0]
-        text += f"at {line}\n" + "\n".join(printed(["at", "-c", job]).splitlines()[-2:]) + "\n"
-    return text + _kept(["grep", "-rs", "rooms", f"{ROOT}/var/spool/cron/crontabs",
-                         f"{ROOT}/etc/crontab", f"{ROOT}/etc/cron.d", f"{ROOT}/etc/cron.daily",
-                         f"{ROOT}/etc/cron.weekly"])
+    for line, runs in at_jobs.of_root():
+        text += f"at {line}\n" + "\n".join(runs.splitlines()[-2:]) + "\n"
+    return text + _of_cron()
+
+
+def _of_cron() -> str:
+    """Lines that name rooms. Any account may have a table, of any size: what nobody would type is
+    left out, and not the tar."""
+    text = ""
+    for place in ("var/spool/cron/crontabs/*", "etc/crontab", "etc/cron.d/*", "etc/cron.daily/*",
+                  "etc/cron.weekly/*"):
+        for file in sorted(glob.glob(f"{glob.escape(ROOT)}/{place}")):
+            text += commands.bounded(["grep", "-Hs", "rooms", file], _TABLE, commands.NOTHING,
+                                     ())[1].decode(errors="replace")
+    return text
 
 
 def _enabled() -> list[str]:

@@ -8,7 +8,7 @@ from collections import Counter
 from dataclasses import dataclass, field
 
 from ..host import locks, pem, safe
-from ..room import settings
+from ..room import environment, settings
 from ..passwords import passwords
 from ..backup import backups
 from ..site import template
@@ -33,6 +33,9 @@ _PASSWORDS = re.compile(rf"({passwords.KEPT[1:]}/({passwords.NAME}|{passwords.FI
                         rf"|etc/nginx/{passwords.NAME})", re.ASCII)
 _SITE, _DIRECTORY = "etc/nginx/sites-available/rooms", "etc/rooms/directory"
 _ROOM = re.compile(r"etc/rooms/[^/]+\.conf", re.DOTALL)
+# Some mail programs run what stands behind a '|', and write to a file: this is neither.
+_ADDRESS = r"\w[\w.+'-]*(@[\w.-]+)?"
+_MAIL = rf"({_ADDRESS}(, *{_ADDRESS}| +{_ADDRESS})*)?"
 
 
 @dataclass
@@ -261,11 +264,13 @@ def _is_plain_room(name: str, data: bytes) -> bool:
     """With the program of this machine, in the places of the package's rooms."""
     word = settings.name_of(name)
     known = settings.known(settings.Room)
-    lines = [one for one in data.decode("utf-8", "replace").split("\n") if one and one[0] != "#"]
-    return (all(one.partition("=")[0] in known for one in lines)
+    rows = data.decode("utf-8", "replace").split("\n")
+    return (not any(map(environment.fault_of, rows))
+            and all(one.partition("=")[0] in known for one in rows if one and one[0] != "#")
             and setting_of(data, "PROGRAM") in ("", settings.PROGRAM)
             and setting_of(data, "UNIT") in ("", f"rooms@{word}")
             and not setting_of(data, "STANDBY")
+            and settings.matches(_MAIL, setting_of(data, "MAIL"))
             and settings.matches(r"/var/lib/rooms/[A-Za-z0-9_-][^/]*", setting_of(data, "FILE"))
             and settings.matches(r"/var/backups/rooms(/[A-Za-z0-9_-][^/]*)?",
                                  setting_of(data, "BACKUPS")))

@@ -10,7 +10,7 @@ import time
 from collections.abc import Iterator
 from contextlib import ExitStack, contextmanager, suppress
 
-from ..host import commands, locks, safe
+from ..host import commands, locks, safe, waiting
 from ..room import program, server, settings
 from ..passwords import passwords
 from ..backup import restoring
@@ -64,7 +64,8 @@ class Machine:
         _follow_passwords(tar)
         self.owned = owned
         self.backups = f"{ROOT}/var/backups/rooms"
-        self.private = f"{self.backups}/restoring-machine"
+        # No room's name: one has a folder here, with its backups.
+        self.private = f"{self.backups}/.restoring-machine"
         self.added: list[str] = []
         self.changed: list[str] = []
         self.going: list[str] = []
@@ -114,21 +115,36 @@ class Machine:
             print(f"would: /{name} is removed")
 
     def keep_before(self, version: str) -> None:
+        """All rooms are locked, so nobody waits for a disk that hangs."""
         name = time.strftime("before-machine.%F.%H%M%S")
+        found = waiting.answer(waiting.PATIENCE, lambda: self._written(name, version),
+                               self.backups)
+        if not isinstance(found, list):
+            raise Stop(f"nothing was changed: {self.backups}/{name}.tar can't be written: "
+                       f"{found or 'that was cut off'}")
+        self.before, *lacks = map(str, found)
+        for lack in lacks:
+            say(f"of {self.before}: {lack}")
+
+    def _written(self, name: str, version: str) -> list[str] | str:
+        """The tar, and what it lacks; or why there is none."""
         before, turn = name, 1
         while os.path.lexists(f"{self.backups}/{before}.tar"):
             turn += 1
             before = f"{name}.{turn}"
-        self.before = f"{self.backups}/{before}.tar"
-        fresh = f"{self.private}/tar"
+        place, fresh = f"{self.backups}/{before}.tar", f"{self.private}/tar"
         try:
-            for lack in machine.save(fresh, version, self.added,
-                                     [f"/{one}" for one in self.tar.certificates]):
-                say(f"of {self.before}: {lack}")
-            os.rename(fresh, self.before)
+            os.mkdir(self.private, 0o700)
+            lacks = machine.save(fresh, version, self.added,
+                                 [f"/{one}" for one in self.tar.certificates])
+            os.rename(fresh, place)
+            return [place, *lacks]
         except OSError as fault:
-            raise Stop(f"nothing was changed: {self.before} can't be written: "
-                       f"{safe.reason(fault)}") from fault
+            return safe.reason(fault)
+        except Stop as stop:
+            return str(stop)
+        finally:
+            shutil.rmtree(self.private, ignore_errors=True)
 
     def change(self) -> None:
         for name in sorted(self.added + self.changed):
@@ -145,17 +161,8 @@ class Machine:
             print(f"/{name} is removed")
 
     def bring(self, version: str) -> None:
-        shutil.rmtree(self.private, ignore_errors=True)
-        try:
-            os.mkdir(self.private, 0o700)
-        except OSError as fault:
-            raise Stop(f"nothing was changed: {self.private} can't be made: {fault.strerror}"
-                       ) from fault
-        try:
-            self.keep_before(version)
-            self.change()
-        finally:
-            shutil.rmtree(self.private, ignore_errors=True)
+        self.keep_before(version)
+        self.change()
 
     def tell_trusted(self) -> None:
         """What of it runs as root."""
@@ -173,7 +180,8 @@ class Machine:
             # Its folder may not be there.
             with suppress(FileNotFoundError), _above(name) as within:
                 os.unlink(os.path.basename(name), dir_fd=within)
-        shutil.rmtree(self.private, ignore_errors=True)
+        waiting.answer(waiting.PATIENCE,
+                       lambda: shutil.rmtree(self.private, ignore_errors=True), self.backups)
 
 
 def start_all(tar: Tar) -> int:
@@ -191,11 +199,13 @@ def start_all(tar: Tar) -> int:
             failed += 1
     words = [["reload-or-restart", "nginx"]] if commands.shown(["nginx", "-t"]) else []
     failed += not words
+    # (a door that runs has the settings of before)
+    words += [["try-restart", "rooms-door@*"]]
     words += [["enable", "--now", one] for one in tar.lines("machine/enabled")]
     for one in words:
-        print("systemctl " + " ".join(one))
+        print(shlex.join(["systemctl", *one]))
         if server.systemctl(*one)[0] != 0:
-            say("failed: systemctl " + " ".join(one))
+            say("failed: " + shlex.join(["systemctl", *one]))
             failed += 1
     return 1 if failed else 0
 
@@ -213,6 +223,7 @@ def tell_rest(task: Machine) -> None:
         print(f"  rooms-admin restore --room {shlex.quote('/' + name)} latest")
     print("  rooms-admin setup; systemctl daemon-reload; nginx -t && "
           "systemctl reload-or-restart nginx")
+    print("  systemctl try-restart 'rooms-door@*'")
     # One after the other, since systemctl refuses all of them where one isn't there.
     for one in tar.lines("machine/enabled"):
         print(f"  systemctl enable --now {one}")

@@ -3,6 +3,7 @@ input alone. They are root's: in /etc/nginx; or, where users change their own, i
 own, where no link is followed, and what is written has this owner and this mode again. They have a
 lock of their own, which nobody holds for longer than it takes to write them: so whatever else is at
 work, somebody can be shut out."""
+import errno
 import getpass
 import os
 import re
@@ -238,8 +239,28 @@ def put_lines(file: str, lines: dict[str, bytes | None]) -> set[str]:
         return had
     if data is None:
         raise Refused(f"no file: {file} isn't there: rooms-admin setup or add makes it")
-    _put(file, b"".join(row + b"\n" for row in left))
+    try:
+        _put(file, b"".join(row + b"\n" for row in left))
+    except OSError as fault:
+        if fault.errno not in (errno.ENOSPC, errno.EDQUOT) or any(wanted.values()):
+            raise
+        _blot_out(file, data, set(wanted))
     return had
+
+
+def _blot_out(file: str, data: bytes, names: set[bytes]) -> None:
+    """A full disk takes no other file, and keeps nobody in: their lines become comments that are as
+    long."""
+    with safe.opened(safe.folder(os.path.dirname(file))) as within, safe.opened(os.open(
+            os.path.basename(file), os.O_WRONLY | os.O_NOFOLLOW | os.O_CLOEXEC,
+            dir_fd=within)) as number:
+        at = 0
+        for row in data.splitlines(keepends=True):
+            line = row.rstrip(b"\r\n")
+            if b":" in line and line.partition(b":")[0] in names:
+                os.pwrite(number, b"#" * len(line), at)
+            at += len(row)
+        os.fsync(number)
 
 
 def _put(file: str, data: bytes) -> None:

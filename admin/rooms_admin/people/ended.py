@@ -5,8 +5,9 @@ import time
 from collections.abc import Iterable
 from contextlib import ExitStack
 from dataclasses import dataclass, field
+from typing import IO
 
-from ..host import mail, safe
+from ..host import locks, mail
 from ..room import names, program, server
 from ..backup import backups
 from ..lists import dump
@@ -16,9 +17,9 @@ from ..room.settings import Room
 from ..lists.end_dates import Changed, Ending, ending, is_meant, taken_back
 
 NEXT = "the next run goes on"
-# A clock may be ahead for a night, and what was taken back doesn't come back. Where it is so far
-# from the last backup that there was before, it is only believed that a day has passed.
-TRUSTED, A_DAY = datetime.timedelta(7), datetime.timedelta(1)
+# What was taken back doesn't come back. Where the clock is far from the last backup that there was
+# before, it is only believed that a day has passed.
+A_DAY = datetime.timedelta(1)
 # How many lines a mail has, and the journal: anybody who manages some folder may cause one.
 MAILED, SAID = 50, 500
 # For so many seconds lists are set: whoever manages much could write many dates.
@@ -47,7 +48,7 @@ class Run:
         self.dry = dry
         self.last = last
         self.clock = self.today = datetime.date.today()
-        if last and self.clock - last > TRUSTED:
+        if last and self.clock - last > backups.TRUSTED:
             self.today = last + A_DAY
         self.waiting = 0
         self.undone: list[str] = []
@@ -139,10 +140,7 @@ class Run:
 def last_day(room: Room, tonight: str = "") -> datetime.date | None:
     """That of the newest backup but the one in the folder of tonight, by its name."""
     found = [one for one in backups.known(room).backups if one.place != tonight]
-    try:
-        return datetime.date.fromisoformat(found[-1].name[:10]) if found else None
-    except ValueError:
-        return None
+    return backups.day(found[-1].name) if found else None
 
 
 def take_back(room: Room, lists: Iterable[bytes], last: datetime.date | None, dry: bool = False
@@ -155,11 +153,12 @@ def take_back(room: Room, lists: Iterable[bytes], last: datetime.date | None, dr
     return task.undone
 
 
-def nightly(room: Room, lists: str) -> list[str]:
+def nightly(room: Room, lists: IO[bytes], tonight: str) -> list[str]:
     """Whoever manages some folder can write a date that can't be kept. So that is told in a mail of
     its own, and makes no failure of the night."""
-    with safe.own_file(lists) as source:
-        undone = take_back(room, source, last_day(room, os.path.dirname(lists)))
+    last = last_day(room, tonight)
+    with locks.lock(room.unit, 60):
+        undone = take_back(room, lists, last)
     if undone:
         rest = [f"and {len(undone) - MAILED} more"] if len(undone) > MAILED else []
         mail.notify(room.mail, f"{room.unit} on {os.uname().nodename}: accesses that should have "

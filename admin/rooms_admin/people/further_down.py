@@ -1,10 +1,12 @@
 """What each user was given further down, in the files that nginx shows as /mine."""
 import json
 import os
+import sys
 from collections.abc import Iterable
 from dataclasses import dataclass, field
+from typing import IO
 
-from ..host import safe
+from ..host import locks
 from ..room import in_parts, published
 from ..backup import texts
 from ..lists import review
@@ -36,13 +38,15 @@ def places(lines: Iterable[str]) -> tuple[dict[str, One], list[str]]:
         if row.user == ANONYMOUS:
             continue
         one = found.setdefault(row.user, One())
+        # Very many rows have the same ones.
+        path, rights = sys.intern(row.path), sys.intern(row.rights)
         if row.kind == "folder":
-            one.at[row.path] = row.rights
+            one.at[path] = rights
         if row.path == "/":
             if "C" in row.rights and row.user != OTHERS:
                 managers.append(row.user)
         elif set(row.rights) & set("rwa") and "r" not in one.rights(above(row.path)):
-            one.places.append({"path": row.path, "kind": row.kind, "rights": row.rights})
+            one.places.append({"path": path, "kind": row.kind, "rights": rights})
     for one in found.values():
         # Of a document in parts each has its list.
         parts = in_parts.hidden(place["path"] for place in one.places)
@@ -51,7 +55,8 @@ def places(lines: Iterable[str]) -> tuple[dict[str, One], list[str]]:
 
 
 def write(room: Room, lines: Iterable[str], at: float) -> None:
-    """The files of a room whose review was made at that moment."""
+    """The files of a room whose review was made at that moment. A large one takes a minute, for
+    which nobody else waits but another one who writes them."""
     found, managers = places(lines)
     # Who asked not to show names shows none here.
     shown = [] if room.people == "no" else sorted(managers)
@@ -60,7 +65,8 @@ def write(room: Room, lines: Iterable[str], at: float) -> None:
         text = json.dumps({"made": published.moment(at), "managers": shown, "places": one.places},
                           separators=(",", ":"))
         files[f"{user}.json"] = text.encode() + b"\n"
-    published.put_folder(room, NAME, files)
+    with locks.lock(f"{room.unit}.{NAME}", 60):
+        published.put_folder(room, NAME, files, locks.lock(room.unit, 60))
 
 
 def would(room: Room, lines: Iterable[str], _at: float) -> None:
@@ -70,11 +76,8 @@ def would(room: Room, lines: Iterable[str], _at: float) -> None:
           f"places {given}, managers {len(managers)}")
 
 
-def nightly(room: Room, path: str) -> list[str]:
+def nightly(room: Room, review: IO[bytes], _tonight: str) -> list[str]:
     """From the review that the nightly run has written beside its backup."""
-    if not published.has_name(room):
-        return []
-    with safe.own_file(path) as source:
-        at = os.fstat(source.fileno()).st_mtime
-        write(room, texts.of_csv(source), at)
+    if published.has_name(room):
+        write(room, texts.of_csv(review), os.fstat(review.fileno()).st_mtime)
     return []

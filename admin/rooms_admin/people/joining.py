@@ -11,6 +11,7 @@ from . import known
 from ..cli.report import Refused, Stop
 from ..room.settings import Room
 from ..lists.dump import Pair
+from .known import Newest
 
 
 @dataclass(frozen=True)
@@ -57,8 +58,10 @@ def counted(members: set[Pair]) -> str:
 
 
 @contextmanager
-def locked(room: Room, done: str = "") -> Iterator[None]:
-    """What was done before counts, whoever else is at work with the room."""
+def locked(room: Room, done: str = "", keeps: bool = False) -> Iterator[Newest]:
+    """What was done before counts, whoever else is at work with the room. Whoever `keeps` what is
+    known afterwards gets the newest backup, which is asked for before."""
+    newest_one = known.newest_backup(room) if keeps else known.NOT_ASKED
     with ExitStack() as owned:
         try:
             owned.enter_context(locks.lock(room.unit, 60))
@@ -67,4 +70,4 @@ def locked(room: Room, done: str = "") -> Iterator[None]:
                 raise
             raise Stop(f"{done}, and the rest isn't done: {busy}; the same command goes on then"
                        ) from busy
-        yield
+        yield newest_one

@@ -5,7 +5,7 @@ import contextlib
 import os
 import re
 import time
-from dataclasses import dataclass
+from dataclasses import dataclass, replace
 
 from ..host import commands, safe, waiting
 from ..room import program, published, server
@@ -17,6 +17,9 @@ from ..room.settings import Room
 from ..lists.dump import Pair
 
 FILE = "members.csv"
+# The number and the name of a backup.
+Newest = tuple[int | None, str | None]
+NOT_ASKED: Newest = (None, None)
 _FIRST = re.compile(r" after (\d{1,9})(?: (\S*) of (file \d+ of -?\d+|))?", re.ASCII)
 
 
@@ -36,9 +39,25 @@ def which_file(room: Room) -> str:
     return commands.run(["stat", "-c", "file %i of %W", "--", room.file]).out.strip()
 
 
-def here(room: Room, pairs: set[Pair], at: float | None = None) -> Known:
+def newest_backup(room: Room) -> Newest:
+    """For whoever hasn't locked the room yet: its disk may hang, and then it isn't known."""
+    with contextlib.suppress(waiting.Hangs):
+        found = backups.known(room).backups
+        return (found[-1].number, found[-1].name) if found else (0, "")
+    return NOT_ASKED
+
+
+def here(room: Room, pairs: set[Pair], newest_one: Newest, at: float | None = None) -> Known:
     """Of the file that is there, at that moment or now."""
-    return Known(pairs, time.time() if at is None else at, which_file(room))
+    return Known(pairs, time.time() if at is None else at, which_file(room), *newest_one)
+
+
+def of_copy(room: Room, pairs: set[Pair], newest_one: Newest, at: float, copied: int) -> Known:
+    """Of a copy that was begun at a moment, in seconds. A file that came later, as a backup that
+    was put in the room's place, has other members."""
+    found = here(room, pairs, newest_one, at)
+    born = found.file.rpartition(" ")[2]
+    return replace(found, file="") if born.isdigit() and int(born) > copied else found
 
 
 def _path(room: Room) -> str:
@@ -46,12 +65,10 @@ def _path(room: Room) -> str:
 
 
 def keep(room: Room, known: Known) -> None:
-    """Nobody waits for a disk of backups that hangs."""
+    """No disk of backups is asked, since whoever keeps it has the room."""
     about = ""
-    with contextlib.suppress(waiting.Hangs):
-        found = backups.known(room).backups
-        after = f"{found[-1].number} {found[-1].name}" if found else "0 "
-        about = f" after {after} of {known.file}"
+    if known.number is not None:
+        about = f" after {known.number} {known.name or ''} of {known.file}"
     published.folder(room)
     safe.put_file(_path(room), members.as_text(known.members, about).encode(), 0o600, at=known.at)
 
@@ -100,15 +117,26 @@ def is_newer(known: Known, last: backups.Backup) -> bool:
 
 
 def in_backup(room: Room, last: backups.Backup, file: str = "") -> Known:
-    with texts.beside(room, last.place, texts.LISTS) as source:
-        return Known(dump.members(source), backups.made(last) or 0, file)
+    """Nobody waits for a disk of backups that hangs: whoever asks may hold the room."""
+    def asked() -> list[Pair] | None:
+        with contextlib.suppress(FileNotFoundError), safe.own_file(
+                os.path.join(last.place, texts.LISTS)) as source:
+            return list(dump.members(source))
+        return None
+    found = waiting.answer(server.patience(room), asked, last.above)
+    if isinstance(found, list):
+        members_then = {(group, user) for group, user in found}
+    else:
+        with texts.beside(room, last.place, texts.LISTS) as source:
+            members_then = dump.members(source)
+    return Known(members_then, backups.made(last) or 0, file, last.number, last.name)
 
 
-def newest(room: Room) -> Known:
+def newest(room: Room, newest_one: Newest = NOT_ASKED) -> Known:
     """A room that nobody serves is asked; of another one the last backup tells it, or what was
     known last if that is newer, and of this file."""
     if server.state(room) == "inactive":
-        return here(room, members.read(room, program.enough(room, room.file)))
+        return here(room, members.read(room, program.enough(room, room.file)), newest_one)
     found = backups.known(room).backups
     last = kept(room)
     if last is None and not found:

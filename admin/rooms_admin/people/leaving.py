@@ -14,6 +14,7 @@ from ..cli.report import Refused, line, say
 from ..room.http_client import Caller
 from ..room.settings import Room
 from ..lists.dump import Object
+from .known import Newest
 
 
 @dataclass(frozen=True)
@@ -93,14 +94,14 @@ def leave(asked: Leaving) -> int:
         done = f"{asked.name} has no password any more"
     if not asked.is_dry:
         dates.tell(room, "forget", asked.name)
-    with joining.locked(room, "" if asked.is_dry else done):
+    with joining.locked(room, "" if asked.is_dry else done, not asked.is_dry) as newest_one:
         lists = _dump(asked, room)
         found = list(naming.of_user(_rows(lists), asked.name))
         if not done and not found:
             say(f"nobody: {asked.name} has no password in {asked.file}, is in no group, owns "
                 f"nothing and stands in no list{alike.meant(asked.name, has | _borne(lists))}")
             return 1
-        _leave_groups(asked, room, dump.members(lists.split(b"\n")))
+        _leave_groups(asked, room, dump.members(lists.split(b"\n")), newest_one)
     if room.passwords != "file":
         say(f"passwords of {asked.place} aren't in its file: {asked.name} has to leave where they "
             "are too")
@@ -110,15 +111,15 @@ def leave(asked: Leaving) -> int:
     return _hand_over(asked, room, lists) if asked.heir else 0
 
 
-def _leave_groups(asked: Leaving, room: Room, before: set[dump.Pair]) -> None:
+def _leave_groups(asked: Leaving, room: Room, before: set[dump.Pair], newest_one: Newest) -> None:
     change = joining.asked(before, set(), {pair for pair in before if pair[1] == asked.name})
+    print("".join(f"{one}\n" for one in change.lines()), end="", flush=True)
     if asked.is_dry:
-        print("".join(f"{one}\n" for one in change.lines()), end="")
         return
     after = joining.make(room, change)
     if not change.is_none:
         print(joining.counted(after), flush=True)
-    offered.show(room, after)
+    offered.show(room, after, newest_one)
 
 
 def _hand_over(asked: Leaving, room: Room, lists: bytes) -> int:

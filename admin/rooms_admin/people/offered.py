@@ -3,16 +3,18 @@ import csv
 import json
 import os
 import unicodedata
+from typing import IO
 
 from ..cli import signs
-from ..host import locks, safe
+from ..host import locks
 from ..room import names, published
 from ..passwords import passwords
+from ..backup import backups
 from ..lists import dump
 from . import known
 from ..cli.report import Interrupted, Refused, Stop, say
 from ..room.settings import Room
-from .known import Known
+from .known import Known, Newest
 
 FILE = "people.json"
 _LONGEST = 200
@@ -62,28 +64,32 @@ def _text(room: Room, what: Known, failures: list[str]) -> bytes:
     return text.encode() + b"\n"
 
 
-def nightly(room: Room, lists: str) -> list[str]:
+def nightly(room: Room, lists: IO[bytes], tonight: str) -> list[str]:
     """From what the nightly run has just written beside its backup."""
-    with safe.own_file(lists) as source:
-        return write(room, known.here(room, dump.members(source),
-                                      os.fstat(source.fileno()).st_mtime))
+    found, newest_one = dump.members(lists), known.newest_backup(room)
+    written = os.fstat(lists.fileno()).st_mtime
+    copied = min(backups.moments(os.path.basename(tonight)), default=int(written))
+    with locks.lock(room.unit, 60):
+        return write(room, known.of_copy(room, found, newest_one, written, copied))
 
 
 def show_known(room: Room) -> None:
     """With who was last known to be in groups. A run that is at work writes them itself, or the
     next one does."""
+    newest_one = known.newest_backup(room)
     try:
         with locks.lock(room.unit, 10):
-            show(room, None)
+            show(room, None, newest_one)
     except locks.Busy as busy:
         say(f"the names that the web interface offers are those of before: {busy}")
 
 
-def show(room: Room, now: set[dump.Pair] | None) -> None:
+def show(room: Room, now: set[dump.Pair] | None, newest_one: Newest) -> None:
     """The names that the web interface offers, with these members of groups, or with those that are
     known. What has been done stays done if that fails; before the first night there are none."""
     try:
-        what = known.here(room, now) if now is not None else known.newest(room)
+        what = (known.here(room, now, newest_one) if now is not None
+                else known.newest(room, newest_one))
         for failure in write(room, what):
             say(failure)
     except Refused:

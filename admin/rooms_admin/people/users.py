@@ -10,7 +10,7 @@ from . import joining, known, look, members, offered, spreadsheet
 from ..cli.report import Refused, say
 from ..room.settings import Room
 from ..lists.dump import Pair
-from .known import Known
+from .known import Known, Newest
 
 _SHOWN = {"yes": "password", "first": "first password", "no": "no password",
           "elsewhere": "password elsewhere"}
@@ -67,10 +67,10 @@ def _show(change: joining.Change) -> None:
         print(one, flush=True)
 
 
-def _make(room: Room, change: joining.Change) -> None:
+def _make(room: Room, change: joining.Change, newest_one: Newest) -> None:
     after = joining.make(room, change)
     print(joining.counted(after), flush=True)
-    offered.show(room, after)
+    offered.show(room, after, newest_one)
 
 
 def _give(place: str, asked: Words, text: str) -> bool:
@@ -85,20 +85,25 @@ def _give(place: str, asked: Words, text: str) -> bool:
     return not had
 
 
-def add(place: str, room: Room | None, asked: Words) -> int:
+def password(asked: Words) -> str:
+    """That of somebody who joins, which may be asked for at the terminal."""
+    if asked.is_dry or asked.what != "add" or asked.file:
+        return ""
+    return passwords.chosen() if asked.is_random else passwords.ask(asked.name)
+
+
+def add(place: str, room: Room | None, asked: Words, text: str) -> int:
     """Groups are looked for before anything has changed."""
     if asked.is_dry:
         print(f"would: a password for {asked.name}, in {passwords.password_files(place)[0]}")
-    text = ("" if asked.is_dry else
-            passwords.chosen() if asked.is_random else passwords.ask(asked.name))
     if room and asked.joins:
-        with joining.locked(room):
+        with joining.locked(room, keeps=not asked.is_dry) as newest_one:
             change = _looked(room, asked, asked.pairs(asked.joins), set())
             if asked.is_dry:
                 _show(change)
                 return 0
             _give(place, asked, text)
-            _make(room, change)
+            _make(room, change, newest_one)
     elif not asked.is_dry and _give(place, asked, text) and room:
         offered.show_known(room)
     return 0
@@ -110,13 +115,13 @@ def add_all(place: str, room: Room | None, asked: Words, wanted: dict[str, set[s
         if _give_all(place, room, asked, wanted) and room and not asked.is_dry:
             offered.show_known(room)
         return 0
-    with joining.locked(room):
+    with joining.locked(room, keeps=not asked.is_dry) as newest_one:
         change = _looked(room, asked, pairs, set())
         _give_all(place, room, asked, wanted)
         if asked.is_dry:
             _show(change)
         else:
-            _make(room, change)
+            _make(room, change, newest_one)
     return 0
 
 
@@ -142,7 +147,7 @@ def _give_all(place: str, room: Room | None, asked: Words, wanted: dict[str, set
 
 
 def change(place: str, room: Room, asked: Words) -> int:
-    with joining.locked(room):
+    with joining.locked(room, keeps=not asked.is_dry) as newest_one:
         change = _looked(room, asked, asked.pairs(asked.joins), asked.pairs(asked.leaves))
         _need_user(place, room, asked.name, change.before)
         _show(change)
@@ -150,7 +155,7 @@ def change(place: str, room: Room, asked: Words) -> int:
             if (group, asked.name) not in change.before:
                 say(f"{asked.name} isn't in {group}")
         if not asked.is_dry:
-            _make(room, change)
+            _make(room, change, newest_one)
     return 0
 
 

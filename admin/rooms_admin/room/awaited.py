@@ -6,7 +6,7 @@ import time
 from ..host import safe
 from . import server, waits, way
 from ..cli.report import Stop
-from ..host.at_socket import AtSocket
+from ..host.at_socket import AtServer
 
 
 def _asked(connection: http.client.HTTPConnection) -> tuple[int, bytes] | None:
@@ -23,7 +23,7 @@ def _asked(connection: http.client.HTTPConnection) -> tuple[int, bytes] | None:
 
 def _answer(port: str, path: str) -> tuple[int, bytes] | None:
     if os.path.exists(path):
-        return _asked(AtSocket(path, waits.ANSWER))
+        return _asked(AtServer(path, waits.ANSWER))
     return _asked(http.client.HTTPConnection("127.0.0.1", int(port), timeout=waits.ANSWER)
                   ) if port else None
 
@@ -66,7 +66,7 @@ def _answered(handle: int) -> None:
     ends = time.monotonic() + waits.LAST
     asked = 0
     while asked < 2 and time.monotonic() < ends:
-        connection = AtSocket(f"/proc/self/fd/{handle}", max(0.05, ends - time.monotonic()))
+        connection = AtServer(f"/proc/self/fd/{handle}", max(0.05, ends - time.monotonic()))
         try:
             connection.connect()
         except BlockingIOError:

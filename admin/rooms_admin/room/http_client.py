@@ -16,7 +16,7 @@ from dataclasses import dataclass, field
 from typing import Any, BinaryIO
 
 from ..cli import report, words
-from ..host.at_socket import AtSocket
+from ..host.at_socket import AtServer, AtSocket
 from . import names, settings
 from ..cli.report import Refused, Stop, say
 from .in_parts import LARGEST
@@ -38,18 +38,19 @@ class Reply:
 def connection(room: Room, timeout: float) -> http.client.HTTPConnection:
     """To the room's own server on this machine, which believes whom it is told."""
     if room.listens:
-        return AtSocket(room.listens, timeout)
+        return AtServer(room.listens, timeout)
     return http.client.HTTPConnection("127.0.0.1", int(room.port), timeout=timeout)
 
 
 class _SocketHandler(urllib.request.HTTPHandler):
-    def __init__(self, path: str) -> None:
+    def __init__(self, kind: type[AtSocket], path: str) -> None:
         super().__init__()
+        self.kind = kind
         self.path = path
 
     def http_open(self, req: urllib.request.Request) -> http.client.HTTPResponse:
         def connected(_host: str, timeout: float = 60, **_given: object) -> AtSocket:
-            return AtSocket(self.path, timeout)
+            return self.kind(self.path, timeout)
         as_urllib_has_it: Any = connected
         return self.do_open(as_urllib_has_it, req)
 
@@ -137,8 +138,8 @@ class Client:
         proxy = urllib.request.ProxyHandler({} if home else None)
         https = urllib.request.HTTPSHandler(context=context)
         self._opener, self._door = (_opener(
-            proxy, _SocketHandler(place) if place else urllib.request.HTTPHandler(), https)
-            for place in (at_socket, at_door or at_socket))
+            proxy, _SocketHandler(kind, place) if place else urllib.request.HTTPHandler(), https)
+            for kind, place in ((AtServer, at_socket), (AtSocket, at_door or at_socket)))
 
     def _sign_in(self, user: str) -> None:
         coded = base64.b64encode(user.encode(errors="surrogateescape")).decode()

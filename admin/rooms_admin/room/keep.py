@@ -40,14 +40,19 @@ class Keep:
     months: int = 0
     years: int = 0
 
+    @property
+    def goes_by_dates(self) -> bool:
+        return bool(self.weeks or self.months or self.years)
+
     def stay(self, names: Sequence[str]) -> set[int]:
-        """Which of these backups do, which stand from the oldest to the newest."""
+        """Which of these backups do, which stand from the oldest to the newest. One that is dated
+        behind the newest is of a clock that was ahead, and no other one goes for it."""
         found = set(range(len(names))[-self.nights:])
         for count, of in ((self.weeks, _week), (self.months, _month), (self.years, _year)):
             seen: set[object] = set()
             for at in reversed(range(len(names))):
                 period = _period(names[at], of)
-                if len(seen) < count and period not in seen:
+                if names[at] <= names[-1] and len(seen) < count and period not in seen:
                     seen.add(period)
                     found.add(at)
         return found

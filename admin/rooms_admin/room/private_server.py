@@ -9,10 +9,10 @@ import os
 import select
 import socket
 import struct
-from collections.abc import Iterator
+from collections.abc import Callable, Iterator
 from contextlib import AbstractContextManager, contextmanager
 
-from ..host import commands, processes, safe, tempdirs
+from ..host import commands, processes, safe, tempdirs, waiting
 from . import program, settings
 from ..cli.report import Stop
 
@@ -20,6 +20,8 @@ PORT = 8780
 USER = "rooms-get"
 _NEW_USER, _NEW_NETWORK = 0x10000000, 0x40000000
 _GET_FLAGS, _SET_FLAGS, _UP = 0x8913, 0x8914, 1
+# Bytes of a disk that no copy takes: others write there too.
+_SPARE = 16 << 20
 
 
 def own_network() -> None:
@@ -34,7 +36,8 @@ def own_network() -> None:
         fcntl.ioctl(any_socket, _SET_FLAGS, struct.pack("16sH22x", b"lo", got[1] | _UP))
 
 
-def copy_files(base: str, source: int, target: int, name: str) -> None:
+def copy_files(base: str, source: int, target: int, name: str,
+               goes_on: Callable[[], None] = lambda: None) -> None:
     """A room's file, and its log if there is one, from one folder into another: both are open, and
     no link is followed."""
     for end in ("", "-wal"):
@@ -47,7 +50,7 @@ def copy_files(base: str, source: int, target: int, name: str) -> None:
         with safe.opened(found), safe.opened(os.open(
                 name + end, os.O_WRONLY | os.O_CREAT | os.O_EXCL | os.O_NOFOLLOW | os.O_CLOEXEC,
                 0o600, dir_fd=target)) as made:
-            safe.copy_all(found, made)
+            safe.copy_all(found, made, goes_on, _SPARE)
 
 
 def give(room: settings.Room, folder: str) -> None:
@@ -75,16 +78,22 @@ def own_folder(room: settings.Room) -> AbstractContextManager[str]:
 
 @contextmanager
 def private_copy(room: settings.Room, backup: str) -> Iterator[str]:
-    """Of the backup in a folder, which may lie in the room's folder."""
-    with own_folder(room) as made:
+    """Of the backup in a folder, which may lie in the room's folder. Nobody waits for a disk that
+    hangs."""
+    def work(goes_on: Callable[[], None]) -> str:
         try:
             with safe.opened(safe.folder(backup)) as source, safe.opened(
                     safe.own_folder(made)) as target:
-                copy_files(room.base, source, target, "room")
+                copy_files(room.base, source, target, "room", goes_on)
             give(room, made)
+            return ""
         except (OSError, safe.NoFile) as fault:
-            raise Stop(f"the backup can't be copied to {tempdirs.place()}: {safe.why(fault)}"
-                       ) from fault
+            return safe.why(fault)
+    with own_folder(room) as made:
+        why = waiting.steadily(waiting.PATIENCE, work, backup)
+        if why != "":
+            raise Stop(f"the backup can't be copied to {tempdirs.place()}: "
+                       f"{why or 'that was cut off'}")
         yield os.path.join(made, "room")
 
 

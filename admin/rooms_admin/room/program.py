@@ -200,10 +200,11 @@ def _end_left(user: int) -> None:
 
 
 def on_copy(room: Room, copied: str, words: list[str | bytes], megabytes: int = 0,
-            into: int | None = None, stdin: bytes = b"") -> tuple[int, bytes, str]:
+            into: int | None = None, stdin: bytes = b"", most: int = 0) -> tuple[int, bytes, str]:
     """A subcommand on a private copy, as the user of copies: its first word, the copy, the others.
-    What is written goes to a file, or is returned."""
-    return _on_copy(room, copied, [room.program, words[0]], words[1:], megabytes, into, stdin)
+    What is written goes to a file, or is returned; `most` is how many bytes it may have, where
+    those are fewer than of others."""
+    return _on_copy(room, copied, [room.program, words[0]], words[1:], megabytes, into, stdin, most)
 
 
 def helper_on_copy(room: Room, copied: str, helper: list[str | bytes], words: list[str | bytes],
@@ -213,13 +214,14 @@ def helper_on_copy(room: Room, copied: str, helper: list[str | bytes], words: li
 
 
 def _on_copy(room: Room, copied: str, before: list[str | bytes], words: list[str | bytes],
-             megabytes: int, into: int | None, stdin: bytes) -> tuple[int, bytes, str]:
+             megabytes: int, into: int | None, stdin: bytes, most: int = 0
+             ) -> tuple[int, bytes, str]:
     """What is written before the copy, whose folder is entered, and behind it."""
     user, _ = user_of_copies(room)
     who = as_user_of_copies(room)
     processes.adopt_orphans()
     parts: list[bytes] = []
-    most = MOST + 8 * os.path.getsize(copied)
+    most = most or MOST + 8 * os.path.getsize(copied)
     take: Callable[[bytes], object] = parts.append
     if into is not None:
         take = functools.partial(safe.write_all, into)

@@ -4,6 +4,7 @@ import ctypes
 import grp
 import os
 import time
+from contextlib import AbstractContextManager
 
 from ..host import safe
 from . import names
@@ -67,9 +68,6 @@ def moment(seconds: float) -> str:
 def exchange(within: int, one: str, other: str) -> None:
     """Each of both names gets what the other one had, in one step: at any moment both are there."""
     libc = ctypes.CDLL(None, use_errno=True)
-    # What was written is on the disk before it has its name.
-    if libc.syncfs(within) != 0:
-        raise _fault(one)
     if libc.renameat2(within, os.fsencode(one), within, os.fsencode(other), _EXCHANGE) != 0:
         raise _fault(other)
 
@@ -79,28 +77,43 @@ def _fault(name: str) -> OSError:
     return OSError(number, os.strerror(number), name)
 
 
-def put_folder(room: Room, name: str, files: dict[str, bytes]) -> None:
+def put_folder(room: Room, name: str, files: dict[str, bytes],
+               held: AbstractContextManager[None]) -> None:
     """A whole folder in the place of the one of that name: whoever opens a file gets the old one or
-    the new one at any moment."""
+    the new one at any moment. What is `held` is so for the exchange alone."""
     fresh = f".{name}.new"
     try:
         with safe.opened(safe.folder(folder(room))) as within:
             _remove_folder(within, fresh)
-            os.mkdir(fresh, 0o700, dir_fd=within)
-            with safe.opened(safe.folder_below(within, fresh)) as at:
-                for file, data in files.items():
-                    _new_file(at, file, data)
-                os.fchown(at, -1, reader())
-                os.fchmod(at, 0o750)
             try:
-                os.stat(name, dir_fd=within, follow_symlinks=False)
-            except FileNotFoundError:
-                os.rename(fresh, name, src_dir_fd=within, dst_dir_fd=within)
-            else:
-                exchange(within, fresh, name)
-            _remove_folder(within, fresh)
+                _new_folder(within, fresh, files)
+                with held:
+                    _put_in_place(within, fresh, name)
+            finally:
+                _remove_folder(within, fresh)
     except OSError as fault:
         raise Stop(f"{FOLDER}/{name_of(room)}/{name} can't be written: {fault}") from fault
+
+
+def _new_folder(within: int, name: str, files: dict[str, bytes]) -> None:
+    os.mkdir(name, 0o700, dir_fd=within)
+    with safe.opened(safe.folder_below(within, name)) as at:
+        for file, data in files.items():
+            _new_file(at, file, data)
+        os.fchown(at, -1, reader())
+        os.fchmod(at, 0o750)
+    # What was written is on the disk before it has its name.
+    if ctypes.CDLL(None, use_errno=True).syncfs(within) != 0:
+        raise _fault(name)
+
+
+def _put_in_place(within: int, fresh: str, name: str) -> None:
+    try:
+        os.stat(name, dir_fd=within, follow_symlinks=False)
+    except FileNotFoundError:
+        os.rename(fresh, name, src_dir_fd=within, dst_dir_fd=within)
+    else:
+        exchange(within, fresh, name)
 
 
 def _new_file(at: int, name: str, data: bytes) -> None:

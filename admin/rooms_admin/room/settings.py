@@ -8,7 +8,7 @@ from dataclasses import dataclass, field, fields
 from typing import Any
 
 from ..host import locks
-from . import keep as keeping
+from . import environment, keep as keeping
 from .names import is_host, is_user
 from ..cli.report import Refused
 
@@ -48,18 +48,10 @@ def _of_text(text: str) -> list[tuple[int, str]]:
             if line and not line.startswith("#")]
 
 
-# What systemd takes off the beginning of a value, and what goes on behind that.
-_QUOTED = re.compile(r"""([ \t\r]*('[^']*'|"([^"\\]|\\.)*"))*[ \t\r]*""")
-
-
 def _look_at_units(path: str, text: str) -> None:
-    """systemd reads a room's file for its units by rules of its own: a quote goes on to the next
-    one, and a backslash at the end, also of a comment, joins the next line."""
     for number, line in enumerate(text.split("\n"), 1):
-        value = "" if line.startswith("#") else line.partition("=")[2]
-        if line.endswith("\\") or _QUOTED.sub("", value, count=1)[:1] in ("'", '"'):
-            raise Refused(f"bad settings: {path}, line {number} goes on in the next one for "
-                          "systemd: no backslash at the end, and no quote at the beginning alone")
+        if fault := environment.fault_of(line):
+            raise Refused(f"bad settings: {path}, line {number} {fault}")
 
 
 def values(path: str, known: dict[str, str], gone: Iterable[str] = (),
@@ -434,6 +426,8 @@ def front(path: str) -> Front:
 
 _PLAIN = r"(/[-A-Za-z0-9._/]+)?"
 _PLAIN_PATH = "an absolute path of A-Z a-z 0-9 - . _ /"
+# Those that the machine trusts, as ca-certificates writes them.
+_TRUSTED = "/etc/ssl/certs/ca-certificates.crt"
 
 
 @dataclass(kw_only=True)
@@ -456,6 +450,11 @@ class Directory:
         """Nothing goes unencrypted to another machine."""
         scheme, _, rest = self.uri.partition("://")
         return scheme == "ldap" and not is_this_machine(rest.strip("/"))
+
+    @property
+    def authorities(self) -> str:
+        """The file of those that are believed: a connection takes none from libldap's settings."""
+        return self.ca or (_TRUSTED if os.path.isfile(_TRUSTED) else "")
 
 
 def is_this_machine(host: str) -> bool:

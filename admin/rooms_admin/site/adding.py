@@ -176,9 +176,10 @@ class NewRoom:
         if not self.owner or not self.made.does(
                 f"room {self.file}, of {self.owner} and {self.group}"):
             return
-        status, said = changes.run("setpriv", "--reuid=rooms", "--regid=rooms", "--init-groups",
-                                   "sh", "-c", 'umask 077; exec "$@"', "sh", setting_up.program(""),
-                                   "init", self.file, self.owner, self.group, check=False)
+        status, said = changes.run(
+            "setsid", "--wait", "setpriv", "--reuid=rooms", "--regid=rooms", "--init-groups", "sh",
+            "-c", 'umask 077; exec "$@"', "sh", setting_up.program(""), "init", self.file,
+            self.owner, self.group, check=False)
         if status:
             raise Stop(f"no room: {said}")
 

@@ -26,10 +26,12 @@ def text(root: str, source: str, of: settings.Directory, key: str) -> str:
         bind = (f'AuthLDAPBindDN "{named}"\n        '
                 f'AuthLDAPBindPassword "exec:/usr/bin/head -n 1 {of.secret}"')
     address = f"{of.uri.rstrip('/')}/{in_address(of.base)}?{of.name}?sub?{in_address(of.users)}"
+    # Without TLS nobody is believed by a certificate.
+    believed = of.authorities if mode != "NONE" else of.ca
     for name, value in (("SETTINGS", "/etc/rooms/directory"), ("ADDRESS", address), ("MODE", mode),
                         ("BIND", bind), ("NAME", of.name), ("KEY", key),
                         ("SHARE", template.share(root)),
-                        ("CA", f"LDAPTrustedGlobalCert CA_BASE64 {of.ca}" if of.ca else "")):
+                        ("CA", f"LDAPTrustedGlobalCert CA_BASE64 {believed}" if believed else "")):
         source = source.replace(f"@{name}@", value)
     return source
 

@@ -162,7 +162,7 @@ def address(root: str) -> str:
             if kind in ("DNS", "Address") and name:
                 return f"https://{name}/"
         return f"https://{front.hosts[0]}/"
-    if os.path.lexists(root + _DEFAULT):
+    if os.path.lexists(root + _DEFAULT) or front.hosts[0] != settings.Front().hosts[0]:
         return f"http://{front.hosts[0]}/"
     _, said = changes.run("hostname", "-I", check=False)
     first = (said.split() or ["localhost"])[0]

@@ -141,6 +141,17 @@ def _look_at_issuer() -> None:
                       f"({issuer}): move it and {SITE_KEY} away")
 
 
+def _need_authority() -> None:
+    """Where the certificate of a site was brought here, as to a new machine, its authority may be
+    elsewhere: browsers that trust that one would find no site by another one's."""
+    files = [f"{AUTHORITY}/authority.pem", f"{AUTHORITY}/authority.key"]
+    if all(os.path.exists(ROOT + one) for one in (SITE, SITE_KEY)) and not any(
+            os.path.exists(ROOT + one) for one in files):
+        raise Refused(f"no authority: that of {SITE} isn't in {AUTHORITY}: bring authority.pem and "
+                      f"authority.key there; or, for a new one, which browsers have to trust, move "
+                      f"{SITE_KEY} away")
+
+
 def look_at_domain(domain: str, hosts: list[str]) -> None:
     """Whoever has the authority's key can certify all of it, so it is typed and never guessed."""
     if not names.is_host(domain) or "." not in domain:
@@ -153,6 +164,7 @@ def look_at_domain(domain: str, hosts: list[str]) -> None:
 
 def for_site(hosts: list[str], domain: str, private: str, dry: bool) -> None:
     _look_at_issuer()
+    _need_authority()
     authority = Authority(AUTHORITY, _OFFICE, [domain] if domain else hosts, private, dry)
     said = _openssl(["x509", "-in", authority.at(authority.pem), "-noout", "-text"])
     if domain and f"DNS:{domain}" not in said.split():

@@ -5,6 +5,7 @@ from ..room import settings
 from ..host.commands import printed
 from ..host.root import ROOT
 from ..room.settings import Room
+from . import served
 
 
 def certificates() -> list[str]:
@@ -43,4 +44,6 @@ def to_be_told(room: Room) -> tuple[str, bool]:
         level, text = see_certificate(file)
         if level:
             return text, level == 2
+        if text := served.see_names(file) or served.see_renewal(file):
+            return text, False
     return "", False

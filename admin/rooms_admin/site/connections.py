@@ -5,7 +5,7 @@ import re
 
 from ..host.changes import Changes
 from ..room import settings
-from . import template
+from . import ports, template
 
 FILE = "/var/lib/rooms-front/connections.nft"
 UNIT = "rooms-connections.service"
@@ -38,6 +38,11 @@ def most(root: str, front: settings.Front) -> int:
     return int(front.connections or of_process(root) * _processes(root) // 2)
 
 
+def _rests(made: Changes) -> bool:
+    """As after a removal that was cut off: what is enabled may have been stopped."""
+    return not made.root and os.path.isdir("/run/systemd/system") and not ports.runs(UNIT)
+
+
 def put(made: Changes, wanted: template.Site) -> None:
     """Brings the table into line with the settings. Where the kernel doesn't take it, the rooms are
     served all the same."""
@@ -53,6 +58,6 @@ def put(made: Changes, wanted: template.Site) -> None:
     changed = made.file(FILE, text.encode())
     if not is_on:
         made.systemctl("enable", UNIT)
-    if (changed or not is_on) and not made.systemctl("restart", UNIT, check=False):
+    if (changed or not is_on or _rests(made)) and not made.systemctl("restart", UNIT, check=False):
         print(f"one address can take all connections of nginx's: systemctl status {UNIT}; a "
               f"machine that can't have its table wants CONNECTIONS=none in {template.SETTINGS}")

@@ -8,11 +8,10 @@ from contextlib import ExitStack
 from dataclasses import dataclass
 from grp import getgrnam
 
-from ..host import changes, safe
+from ..host import at_jobs, changes, safe
 from ..passwords import passwords
 from ..cli.report import Stop
 from ..host.changes import Changes
-from ..host.commands import printed
 from ..room.settings import Place
 from .template import Site
 
@@ -170,10 +169,9 @@ def finish(made: Changes, gone: list[Moved]) -> None:
 
 def _tell_jobs(gone: list[str]) -> None:
     """Such as those that take a guest's password away at a date."""
-    for line in printed(["atq"]).splitlines():
+    for line, runs in at_jobs.of_root():
         job = line.split("\t")[0]
-        said = printed(["at", "-c", job])
         for path in gone:
-            if path in said:
+            if path in runs:
                 print(f"the job {job} of at names {path}: type it again, by "
                       "rooms-admin user remove --password")

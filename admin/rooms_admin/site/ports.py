@@ -1,5 +1,6 @@
 """Rooms that have a port beside their socket: a unit of its own listens there, and passes on what
 is sent. No unit takes its port from a file of settings, so it is told which one it is."""
+import contextlib
 import glob
 import os
 
@@ -57,7 +58,9 @@ def put(made: Changes) -> None:
         made.systemctl("disable", "--now", _unit(name))
         changed.add(name)
         if made.remove(_line(name)) and not made.dry:
-            os.rmdir(os.path.dirname(made.root + _line(name)))
+            # An administrator's own lines stay there.
+            with contextlib.suppress(OSError):
+                os.rmdir(os.path.dirname(made.root + _line(name)))
     for name, port in sorted(ports.items()):
         text = f"[Socket]\nListenStream=\nListenStream=127.0.0.1:{port}\n"
         if made.file(_line(name), text.encode()) or not _is_on(made.root, name):

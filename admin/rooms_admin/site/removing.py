@@ -17,12 +17,14 @@ def remove_room(made: Changes, name: str) -> None:
     unit = settings.value(made.root + conf, "UNIT") or f"rooms@{name}"
     if unit != f"rooms@{name}":
         raise Refused(f"another unit: UNIT in {conf} is '{unit}', which rooms-admin didn't make")
-    kept = [settings.value(made.root + conf, one) for one in ("FILE", "BACKUPS")]
+    file, kept_in = (settings.value(made.root + conf, one) for one in ("FILE", "BACKUPS"))
+    kept = [file, f"{file}-wal", kept_in]
     kept += [*password_files.all_of(name), f"/etc/rooms/{name}.groups"]
     with ExitStack() as owned:
         if not made.dry:
             # Held until it is gone, so that no nightly run is at work meanwhile.
             owned.enter_context(locks.lock(f"rooms@{name}.nightly", 2))
+            owned.enter_context(locks.lock(f"rooms@{name}.mine", 2))
             owned.enter_context(locks.lock(f"rooms@{name}", 2))
         if not made.root:
             made.systemctl("disable", "--now", f"{settings.nightly_unit(name)}.timer",

@@ -5,18 +5,20 @@ import os
 import re
 import shutil
 import tempfile
-from pwd import getpwnam
+from pwd import getpwnam, struct_passwd
 
 from ..host import changes, commands
 from ..room import program as runs, settings
 from ..passwords import passwords
 from ..directory import directory, guests
 from . import apache, apply, password_files, template, values
-from ..cli.report import Refused, Stop
+from ..cli.report import Refused, Stop, say
 from ..host.changes import Changes
 
 _OFFICE = "/etc/rooms/office.conf"
 _UNIT = "rooms-passwords.service"
+# From this number on Debian gives them to people.
+_PEOPLE = 1000
 
 
 def set_up(made: Changes, pair: tuple[str, str] | None, chosen: str,
@@ -74,10 +76,35 @@ def _user(made: Changes) -> None:
                  "rooms-door", "rooms-night", "rooms-earlier", "rooms-port", "rooms-wait",
                  "rooms-texts", "rooms-extract", "rooms-picture", "rooms-would"):
         try:
-            getpwnam(name)
+            if _signs_in(getpwnam(name)):
+                say(f"not safe: somebody signs in as {name}, who gets to rooms: rename that "
+                    "account, and then systemd-sysusers rooms.conf")
         except KeyError:
             if made.does(f"user {name}"):
                 changes.run("systemd-sysusers", "rooms.conf")
+    _take_home(made)
+
+
+def _take_home(made: Changes) -> None:
+    """A version before gave one to the servers' user, who writes there: what others obey in a home,
+    such as keys for sshd, would be theirs. (usermod waits until nobody sees a process of that user,
+    and a server goes on meanwhile.)"""
+    try:
+        home = getpwnam("rooms").pw_dir
+    except KeyError:
+        return
+    if home != "/var/lib/rooms" or not made.does("the user rooms is at home nowhere"):
+        return
+    status, said = changes.run("unshare", "--pid", "--fork", "--mount-proc", "usermod", "--home",
+                               "/nonexistent", "rooms", check=False)
+    if status:
+        say(f"not safe: the user rooms is at home in {home}: usermod --home /nonexistent rooms, "
+            f"while no server runs: {said}")
+
+
+def _signs_in(user: struct_passwd) -> bool:
+    """A person's account, as one for bookings: systemd-sysusers takes whoever has the name."""
+    return user.pw_uid >= _PEOPLE and os.path.basename(user.pw_shell) not in ("nologin", "false")
 
 
 def room_text(root: str, name: str, port: str, title: str, backups: str, host: str = "",

@@ -75,8 +75,8 @@ HOSTS=rooms.example
 CERTIFICATE=
 KEY=
 
-# With UNENCRYPTED=yes they do so on purpose, as behind a proxy that has TLS: rooms-admin check says
-# nothing of it.
+# With UNENCRYPTED=yes they do so on purpose: rooms-admin check says nothing of it. A proxy before
+# nginx has to come by TLS too, or browsers can change nothing.
 UNENCRYPTED=
 
 # How many connections to nginx one address, or network of IPv6, may have at once. If this is empty,

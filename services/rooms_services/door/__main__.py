@@ -20,7 +20,7 @@ from rooms_services.door.changes.keeper import begun  # noqa: E402
 from rooms_services.door.search.reading import Reading  # noqa: E402
 from rooms_services.door.search.search import Texts  # noqa: E402
 from rooms_services.door.serve import serve  # noqa: E402
-from rooms_services.texts import feed  # noqa: E402
+from rooms_services.document_texts import feed  # noqa: E402
 
 
 class _Words(argparse.ArgumentParser):
@@ -60,6 +60,8 @@ def _given() -> argparse.Namespace:
                        help="the socket of who makes pictures of the pages of documents")
     words.add_argument("--port", default="", help="that at which the room is asked too, if any")
     words.add_argument("--largest", type=int, default=1, help="how many MB a document may have")
+    words.add_argument("--arriving", default="/var/tmp",
+                       help="the folder of what has come so far of large documents")
     return words.parse_args()
 
 
@@ -73,7 +75,7 @@ def main() -> int:
                        os.path.join(kept, "dates"), bool(texts))
         locks = os.path.join(kept, "locks") if given.drive == "yes" else ""
         serve(given.room, given.listen, given.would, locks, given.full, keeper, texts,
-              given.pictures, given.largest << 20, bool(given.port))
+              given.pictures, given.largest << 20, bool(given.port), given.arriving)
     except KeyboardInterrupt:
         pass
     except OSError as fault:

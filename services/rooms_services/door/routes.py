@@ -4,7 +4,7 @@ from dataclasses import dataclass
 
 from rooms_admin.room.in_parts import LARGEST
 
-from ..room.answers import Answer, Stop
+from ..room.answers import Answer, Stop, told
 from .changes.keeper import Keeper
 from .changes.latest import latest
 from .changes.listed import listed
@@ -13,10 +13,12 @@ from .folders.below import below
 from .folders.closed import closed
 from .folders.find import find
 from .folders.goes import goes
-from .folders.matched import Wanted, condition_of, read, tag_alone
+from .folders.matched import Condition, Wanted, condition_of, read, tag_alone
 from .folders.pages import page
 from .folders.would import Would, would
 from .large import replacing, together
+from .large.arriving import Arriving
+from .large.pieces import Uploads
 from .large.removal import remove
 from .search.search import Texts, search
 from ..room.paths import Names, chosen_in, names_in, names_of_body, names_of_move
@@ -24,12 +26,14 @@ from ..room.room import Room
 from ..room.space import Space
 
 PREFIX = "/door/"
+# The field that names what has come in pieces.
+UPLOAD = "Room-Upload"
 # What may take long, each with its kind.
 LONG_ROUTES = {"below": "walk", "closed": "walk", "find": "walk", "folder": "walk", "goes": "walk",
                "latest": "walk", "pages": "picture", "remove": "walk", "search": "search",
-               "would": "walk", "zip": "zip"}
+               "upload": "place", "would": "walk", "zip": "zip"}
 # Behind what a query may stand.
-_ASKING = ("below", "find", "goes", "pages", "places", "search", "zip")
+_ASKING = ("below", "find", "goes", "pages", "search", "upload", "zip")
 # Behind what no path stands.
 _PATHLESS = ("would",)
 
@@ -57,6 +61,7 @@ class Asked:
     # How many bytes a document may have, and how many more the room takes.
     largest: int
     space: Space
+    uploads: Uploads
 
     @property
     def dates(self) -> Keeper | None:
@@ -129,20 +134,56 @@ def _tag(asked: Asked) -> Answer:
 def _replace(asked: Asked) -> Answer:
     condition = condition_of(*asked.conditions())
     if asked.route == "doc":
+        if name := asked.field(UPLOAD):
+            return _finish(asked, name, condition)
         return replacing.replace(asked.room, asked.would, asked.user, asked.names,
                                  asked.upload or asked.body, condition)
     return together.listed(asked.room, asked.would, asked.user, asked.route, asked.names,
                            asked.body, condition)
 
 
-def _prepare(asked: Asked) -> Answer:
+def _finish(asked: Asked, name: str, condition: Condition) -> Answer:
+    """The document is what has come in pieces."""
+    if asked.body or asked.upload:
+        raise Stop(400, "bad-length", "an upload in pieces, and a body")
+
+    def write(one: Arriving) -> Answer:
+        upload = replacing.Upload(one.size, one.reader(), asked.space)
+        return replacing.replace(asked.room, asked.would, asked.user, asked.names, upload,
+                                 condition)
+    return asked.uploads.finish(asked.user, name, asked.names, write)
+
+
+def _begin(asked: Asked) -> Answer:
     query = asked.query
     if not (query.isascii() and query.isdigit()) or len(query) > 12:
         raise Stop(400, "bad-query", "how many bytes it will have")
     if not LARGEST < int(query) <= asked.largest:
         raise Stop(413, "too-large", f"a document has at most {asked.largest} bytes")
-    return replacing.prepare(asked.room, asked.would, asked.user, asked.names, int(query),
-                             condition_of(*asked.conditions()), asked.space)
+    replacing.prepare(asked.room, asked.would, asked.user, asked.names, int(query),
+                      condition_of(*asked.conditions()), asked.space)
+    return told({"upload": asked.uploads.begin(asked.user, int(query))}, 201)
+
+
+def _name_of(asked: Asked) -> str:
+    if len(asked.names) != 1:
+        raise Stop(404, "no-upload", "no such upload")
+    return asked.names[0]
+
+
+def _put_piece(asked: Asked) -> Answer:
+    if len(asked.names) != 2:
+        raise Stop(404, "no-upload", "no such upload")
+    return asked.uploads.put(asked.user, *asked.names, asked.body)
+
+
+def _pieces(asked: Asked) -> Answer:
+    return told({"here": asked.uploads.here(asked.user, _name_of(asked))})
+
+
+def _drop(asked: Asked) -> Answer:
+    asked.uploads.drop(asked.user, _name_of(asked))
+    return Answer(204)
 
 
 def _remove(asked: Asked) -> Answer:
@@ -180,7 +221,8 @@ ROUTES: dict[str, dict[str, Route]] = {
     "doc": _MATCHED, "dacl": _MATCHED, "sacl": _MATCHED,
     "attr": {"PUT": _give}, "move": {"POST": _move}, "object": {"DELETE": _remove},
     "left": {"DELETE": _remove_left},
-    "places": {"POST": _prepare}}
+    "upload": {"POST": _begin},
+    "pieces": {"GET": _pieces, "PUT": _put_piece, "DELETE": _drop}}
 
 
 def place_of(target: str) -> tuple[str, str, str]:

@@ -1,12 +1,14 @@
 """HTTP: messages from nginx, which has collected each of them, to what they ask for, and back.
 
 A connection has a thread. nginx collects whole requests and takes whole replies at once, however
-slow its callers are, so threads wait for the room and for their turn alone. A door that is to end
+slow its callers are, so threads wait for the room and for their turn alone. Large documents come at
+their senders' pace, and have their turn once they are here. A door that is to end
 takes nobody any more and answers whom it has taken; who comes then waits at the socket, which
 systemd keeps for the next one."""
 import http.server
 import os
 import re
+import select
 import signal
 import socket
 import socketserver
@@ -14,6 +16,8 @@ import sys
 import threading
 import time
 import traceback
+from collections.abc import Iterator
+from contextlib import contextmanager
 from urllib.parse import urlsplit
 
 from rooms_admin.room import waits
@@ -21,23 +25,32 @@ from rooms_admin.room.in_parts import LARGEST
 
 from .. import listening
 from ..room.answers import TEXT, Answer, Stop, reason
+from ..room.paths import Names
 from ..room.room import USER, Room
 from ..room.space import Space
-from .routes import LONG_ROUTES, PREFIX, Asked, route_of
+from .routes import LONG_ROUTES, PREFIX, UPLOAD, Asked, route_of
 from ..room.turns import Users
 from .changes.keeper import Keeper
+from .chunked import Chunked
 from .search.search import Texts
 from .folders.would import Would
 from .webdav.calls import Drive
-from .large.replacing import Upload
+from .large.arriving import Arrivals, Arriving
+from .large.pieces import Uploads
+from .large.replacing import Untaken, Upload, may_write
+from .webdav import paths
 from .webdav.kept import Kept
 from .webdav.methods import LONG_METHODS, answer
 
 # Connections, most of which wait for their turn; and how long nginx may keep one waiting.
 MOST = 256
 SECONDS = 65.0
+# What is taken at once of what comes at its sender's pace; how often it is looked whether that gave
+# way; and how long nginx may go on sending what is refused.
+PIECE, TICK, LINGER = 65_536, 0.25, 2.0
 
-
+# What changes nothing.
+READS = ("GET", "HEAD", "OPTIONS", "PROPFIND")
 # What stands before the addresses of a room without a host of its own. nginx says it.
 _ABOVE = re.compile(r"(/[a-z0-9-]{1,32})?")
 
@@ -45,11 +58,12 @@ _ABOVE = re.compile(r"(/[a-z0-9-]{1,32})?")
 class Door:
     """A door may have no drive, keep no dates, and search no texts. `full` is the path of a file
     that is there while the room takes no more, `pictures` the socket of who makes pictures of
-    pages, and `largest` how many bytes a document may have."""
+    pages, `largest` how many bytes a document may have, and `arriving` the folder of those that
+    come."""
 
     def __init__(self, room: Room, would: Would, drive: Drive | None = None, full: str = "",
                  keeper: Keeper | None = None, texts: Texts | None = None,
-                 pictures: str = "", largest: int = LARGEST) -> None:
+                 pictures: str = "", largest: int = LARGEST, arriving: str = "") -> None:
         self.texts = texts
         self.room = room
         self.would = would
@@ -59,6 +73,8 @@ class Door:
         self.largest = max(largest, LARGEST)
         self.users = Users()
         self.space = Space(full)
+        self.arrivals = Arrivals(arriving, self.largest)
+        self.uploads = Uploads(self.arrivals)
 
     def is_drive(self, target: str) -> bool:
         return self.drive is not None and target.startswith("/drive") and target[6:7] in ("", "/")
@@ -71,7 +87,7 @@ class Door:
         """Whether a full room doesn't take it, as nginx says too (deploy/nginx/site.conf.in)."""
         if self.is_drive(target):
             return method in ("PUT", "MKCOL", "COPY", "LOCK")
-        return self.is_document(method, target) or target.startswith(f"{PREFIX}places/")
+        return self.is_document(method, target) or target.startswith(f"{PREFIX}upload/")
 
 
 class Handler(http.server.BaseHTTPRequestHandler):
@@ -79,10 +95,12 @@ class Handler(http.server.BaseHTTPRequestHandler):
     timeout = SECONDS
     door: Door
     server: "Server"
-    # How many bytes of the body nobody has read yet; and whether nobody will, since they are too
-    # many.
+    # How many bytes of the body nobody has read yet, or what it is read by where it doesn't say its
+    # length; whether nobody will, since they are too many; and whether they come at their sender's
+    # pace.
     left = 0
-    is_too_large = False
+    chunks: Chunked | None = None
+    is_too_large = is_coming = False
 
     def handle(self) -> None:
         """A connection for each request, as nginx has them, or for one after the other."""
@@ -99,8 +117,8 @@ class Handler(http.server.BaseHTTPRequestHandler):
     def address_string(self) -> str:
         return "nginx"
 
-    def log_request(self, code: object = "-", size: object = "-") -> None:
-        """nginx writes the log."""
+    def log_message(self, *_what: object) -> None:
+        """nginx writes the log. Of what can't be read, a user would fill this one."""
 
     def _field(self, name: str) -> str:
         """The value of a field that may stand once. Two would be read in two ways."""
@@ -130,23 +148,37 @@ class Handler(http.server.BaseHTTPRequestHandler):
         if site not in ("", "same-origin", "none") or not from_here:
             raise Stop(403, "another-site", "a page of another site may not ask here")
 
+    def _unsized(self) -> None:
+        """What may be a document comes without its length too (deploy/nginx/door-maps.conf.in)."""
+        is_chunked = self._field("Transfer-Encoding").lower() == "chunked"
+        if not is_chunked or "Content-Length" in self.headers or self.command != "PUT":
+            raise Stop(501, "transfer-coding", "a body has to come with its length")
+        self.chunks, self.is_coming = Chunked(), True
+
     def _length(self) -> int:
         """A message whose end isn't sure ends the connection."""
         if "Transfer-Encoding" in self.headers:
-            raise Stop(501, "transfer-coding", "a body has to come with its length")
+            self._unsized()
+            return 0
         text = self._field("Content-Length") or "0"
         if not (text.isascii() and text.isdigit()):
             raise Stop(400, "bad-length", "no length")
-        most = self.door.largest if self.door.is_document(self.command, self.path) else LARGEST
-        if len(text) > 12 or int(text) > most:
+        self.is_coming = len(text) > 12 or int(text) > LARGEST
+        if len(text) > 12 or int(text) > self._most():
             self.left = int(text) if len(text) <= 12 else 0
-            if self.door.is_drive(self.path):
-                # As nginx says it of what is too large for any room.
-                self.is_too_large = self.close_connection = True
-                return 0
-            raise Stop(413, "too-large", f"a document has at most {most} bytes")
+            self._refuse_large()
+            return 0
         self.left = int(text)
         return self.left
+
+    def _most(self) -> int:
+        return self.door.largest if self.door.is_document(self.command, self.path) else LARGEST
+
+    def _refuse_large(self) -> None:
+        if not self.door.is_drive(self.path):
+            raise Stop(413, "too-large", f"a document has at most {self._most()} bytes")
+        # As nginx says it of what is too large for any room.
+        self.is_too_large = self.close_connection = True
 
     def _taken(self, length: int) -> bytes:
         """The next bytes of the body."""
@@ -159,49 +191,131 @@ class Handler(http.server.BaseHTTPRequestHandler):
         return body
 
     def _drop_rest(self) -> None:
-        """nginx sends all of it before it reads an answer."""
-        while self.left > 0 and (part := self.rfile.read(min(self.left, 65_536))):
+        """nginx has all of it, and sends it before it reads an answer."""
+        while not self.is_coming and self.left > 0 and (
+                part := self.rfile.read(min(self.left, PIECE))):
             self.left -= len(part)
             self.close_connection = True
 
+    def _linger(self) -> None:
+        """It reads no answer where it can't send what still comes."""
+        self.close_connection = True
+        self.connection.settimeout(LINGER)
+        self.connection.shutdown(socket.SHUT_WR)
+        until = time.monotonic() + LINGER
+        while time.monotonic() < until and self.connection.recv(PIECE):
+            pass
+
+    def _next(self, one: Arriving) -> bytes:
+        """What has come of it, as soon as there is any."""
+        most = PIECE if self.chunks else min(self.left, PIECE)
+        self.connection.setblocking(False)
+        try:
+            until, is_there = time.monotonic() + SECONDS, False
+            while time.monotonic() < until:
+                if piece := self.rfile.read1(most):
+                    if self.chunks:
+                        return self.chunks.taken(piece)
+                    self.left -= len(piece)
+                    return piece
+                if is_there:
+                    raise Stop(400, "bad-length", "the body was cut off")
+                one.refuse_over()
+                is_there = bool(select.select([self.connection], [], [], TICK)[0])
+        finally:
+            self.connection.settimeout(SECONDS)
+        raise TimeoutError
+
+    def _comes(self) -> bool:
+        return not self.chunks.is_over if self.chunks else self.left > 0
+
+    @contextmanager
+    def _arrived(self, user: str, length: int) -> Iterator[Upload | bytes | None]:
+        """What may be larger than a document of the room, once all of it is here; nothing of other
+        bodies."""
+        if not self.is_coming or self.is_too_large:
+            yield None
+            return
+        if self.door.adds(self.command, self.path):
+            self.door.space.refuse_full()
+        if not self._may_come(user):
+            self.close_connection = True
+            yield Untaken(length or LARGEST + 1, self.door.space)
+            return
+        arrivals = self.door.arrivals
+        one = arrivals.begin(user, length or self.door.largest)
+        try:
+            while self._comes() and not self.is_too_large:
+                self._take(one, self._next(one))
+            arrivals.hold(one)
+            if self.is_too_large or one.came <= LARGEST:
+                yield b"" if self.is_too_large else one.read(0, one.came)
+            else:
+                yield Upload(one.came, one.reader(), self.door.space)
+        finally:
+            arrivals.end(one)
+
+    def _names(self) -> Names:
+        if self.door.is_drive(self.path):
+            return paths.names_of(self.path, paths.ROUTE)[0]
+        return route_of(self.command, self.path)[2]
+
+    def _may_come(self, user: str) -> bool:
+        """Nobody fills the disk with what they may not write. The route asks for the room's own
+        denial, which is recorded."""
+        if not self.door.is_document(self.command, self.path):
+            return True
+        names = self._names()
+        with self.door.users.turn(user):
+            return may_write(lambda ask: self.door.room.ask(user, ask), names).rulings().get(
+                "w", False)
+
+    def _take(self, one: Arriving, piece: bytes) -> None:
+        if one.came + len(piece) > self._most():
+            self._refuse_large()
+        elif piece:
+            self.door.arrivals.add(one, len(piece))
+            one.write(one.came - len(piece), piece)
+
     def _answer(self) -> None:
         """A body is read once it is the user's turn, so that no user fills the memory by it."""
-        self.left, self.is_too_large = 0, False
+        self.left, self.chunks, self.is_too_large, self.is_coming = 0, None, False, False
         try:
             length = self._length()
             user = self._user()
             self._refuse_others()
-            with self.door.users.turn(user, self._kind(length)):
+            if self.command not in READS:
+                self.door.room.changes.refuse(user)
+            with self._arrived(user, length) as come, \
+                    self.door.users.turn(user, self._kind(isinstance(come, Upload))):
                 # nginx looked when it came, which may be minutes ago.
                 if self.door.adds(self.command, self.path):
                     self.door.space.refuse_full()
-                answer = self._done(user, length)
+                answer = self._done(user, self._taken(length) if come is None else come)
                 self._drop_rest()
                 if answer.length is None or self.command == "HEAD":
                     self._send(answer)
                     return
             # It goes at its caller's pace.
-            with self.door.users.turn(user, "large"):
+            with self.door.users.turn(user, "sent"):
                 self._send(answer)
         except Stop as stop:
             self._drop_rest()
             self.close_connection = True
             self._send(stop.answer(self.door.is_drive(self.path)))
 
-    def _kind(self, length: int) -> str:
+    def _kind(self, is_large: bool) -> str:
         """Of what may take long."""
-        if length > LARGEST:
+        if is_large or UPLOAD in self.headers:
             return "large"
         if self.door.is_drive(self.path):
             return "walk" if self.command in LONG_METHODS else ""
         return LONG_ROUTES.get(self.path.removeprefix(PREFIX).partition("/")[0], "")
 
-    def _done(self, user: str, length: int) -> Answer:
+    def _done(self, user: str, come: Upload | bytes) -> Answer:
         drive = self.door.drive if self.door.is_drive(self.path) else None
+        upload, body = (come, b"") if isinstance(come, Upload) else (None, come)
         try:
-            upload = Upload(length, self._taken, self.door.space) \
-                if length > LARGEST else None
-            body = b"" if upload else self._taken(length)
             if drive:
                 above = self._field("Room-Above")
                 if not _ABOVE.fullmatch(above):
@@ -212,7 +326,7 @@ class Handler(http.server.BaseHTTPRequestHandler):
             return route(Asked(self.door.room, user, self.command, word, names, query,
                                self._field, body, self.door.keeper, self.door.texts,
                                self.door.would, self.door.pictures, upload,
-                               self.door.largest, self.door.space))
+                               self.door.largest, self.door.space, self.door.uploads))
         except Stop as stop:
             return stop.answer(drive is not None)
         except OSError:
@@ -224,6 +338,8 @@ class Handler(http.server.BaseHTTPRequestHandler):
     def one(self) -> None:
         try:
             self._answer()
+            if self.is_coming and self._comes():
+                self._linger()
         except OSError:
             # Whoever asked is gone, or takes nothing: all that was asked is done.
             self.close_connection = True
@@ -338,13 +454,14 @@ def opened(place: str, door: Door) -> Server:
 
 def serve(room: str, listen: str, would: str, locks: str, full: str,
           keeper: Keeper | None, texts: Texts | None, pictures: str = "",
-          largest: int = LARGEST, has_port: bool = False) -> None:
+          largest: int = LARGEST, has_port: bool = False, arriving: str = "") -> None:
     """Without a file of locks there is no drive. Whoever asks at a port of the room changes it
     without a word to the door."""
     drive = Drive(Kept(locks), full, None if has_port else keeper, largest) if locks else None
     asked = Room(room, note=keeper.note if keeper else None)
-    with opened(listen, Door(asked, Would(would), drive, full, keeper, texts, pictures,
-                             largest)) as server:
+    door = Door(asked, Would(would), drive, full, keeper, texts, pictures, largest, arriving)
+    with opened(listen, door) as server:
+        threading.Thread(target=door.arrivals.run, daemon=True).start()
         if keeper:
             threading.Thread(target=keeper.run, daemon=True).start()
         # (Its thread alone accepts, and waits for another one that ends it.)

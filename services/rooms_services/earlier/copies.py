@@ -20,11 +20,11 @@ from .nights import Nights
 # Only tests set others.
 COPIES = os.environ.get("ROOMS_NIGHTS", "/var/cache/rooms-nights")
 OPEN = os.path.join(locks.RUN, "rooms-nights/open")
-# How many at once, and megabytes of all; after how many seconds one may go for another one, and
-# after how many it ends by itself.
+# How many at once, and megabytes of all; after how many seconds without a question, or in all, one
+# may go for another one, and after how many it ends by itself.
 MOST = 4
 MEMORY = 1024
-MAY_GO = float(os.environ.get("ROOMS_NIGHTS_MAY_GO", "60"))
+MAY_GO, MAY_STAY = float(os.environ.get("ROOMS_NIGHTS_MAY_GO", "60")), 600.0
 IDLE = float(os.environ.get("ROOMS_NIGHTS_IDLE", "300"))
 # What the program may take of addresses beside what it needs, and how long it may take to begin.
 BESIDE, PATIENCE = 256, 60.0
@@ -62,6 +62,11 @@ class Copy:
         """Its disk hangs or is too slow, and nobody waits for it any more: it keeps no place, and
         is never served."""
         return not self.known.is_set() and time.monotonic() - self.began > 2 * PATIENCE
+
+    def may_go(self) -> bool:
+        """Whoever asks for four nights again and again doesn't keep the others from everybody."""
+        now = time.monotonic()
+        return self.known.is_set() and (now - self.used >= MAY_GO or now - self.began >= MAY_STAY)
 
     def is_dead(self) -> bool:
         return self.server is not None and self.server.poll() is not None
@@ -141,18 +146,19 @@ class Copies:
         return found.place
 
     def _make_place(self, megabytes: int) -> list[Copy]:
-        """What has to go for one more, the one first that was asked least lately. None goes that
-        was asked for just now, or is still opened."""
+        """What has to go for one more, the one first that was asked least lately, of those that
+        may."""
         if megabytes > MEMORY:
             raise Ends("large", f"it needs {megabytes} MB, and all together have {MEMORY} MB")
         out: list[Key] = []
         rest = sorted((pair for pair in self._open.items() if not pair[1].is_late()),
                       key=lambda pair: pair[1].used)
         while len(rest) >= MOST or sum(one.megabytes for _, one in rest) + megabytes > MEMORY:
-            key, first = rest.pop(0)
-            if time.monotonic() - first.used < MAY_GO or not first.known.is_set():
+            found = next((pair for pair in rest if pair[1].may_go()), None)
+            if found is None:
                 raise Ends("busy", "too many nights are open")
-            out.append(key)
+            rest.remove(found)
+            out.append(found[0])
         return [self._open.pop(key) for key in out]
 
     def _open_one(self, key: Key, room: Nights, backup: str, made: Copy) -> None:

@@ -4,6 +4,7 @@ The room answers one connection at a time. So a long row of questions is cut int
 connections, between which others are answered, and what belongs together is sent over one, in which
 nobody comes between."""
 import json
+import math
 import re
 import socket
 import threading
@@ -24,14 +25,19 @@ from .turns import PATIENCE, InTurn
 # waits with a question.
 ROW, ROW_BYTES = 64, 60_000
 # Of how many questions of a row a listing takes the place: one of a thousand names takes the room
-# as long as a hundred others.
-LISTING = 16
+# as long as a hundred others. So does one about something two thousand folders deep: the place of
+# another one for each so many.
+LISTING, DEEP = 16, 32
 # What the answers to a row, or one answer, may have, so that no folder fills the memory: some
 # 80,000 names, or 64 lists of 4,096 entries.
 MOST_ANSWERED = 12_582_912
+# How long the head of an answer may be.
+LONGEST_HEAD = 4096
 # How much of what is asked in one user's name may be denied: so many at once, and so many a second
-# in the long run. Each denial may leave a record, and nothing takes that away.
+# in the long run. Each denial may leave a record, and nothing takes that away. So may each change,
+# of which one request of theirs may become very many.
 MOST_DENIED, DENIED_PACE = 1000, 10.0
+MOST_CHANGED, CHANGED_PACE = 100_000, 10.0
 # Of so many users it is known.
 MOST_USERS = 10_000
 CONNECT_SECONDS = 10.0
@@ -52,10 +58,17 @@ class Ask(NamedTuple):
     is_bare: bool = False
 
     def message(self, user: str) -> bytes:
+        if self.method == "GET":
+            return question(user, self.route, self.path, self.query)
         query = f"?{self.query}" if self.query else ""
-        length = f"Content-Length: {len(self.body)}\r\n" if self.method != "GET" else ""
         return (f"{self.method} /{self.route}/{self.path}{query} HTTP/1.1\r\nRoom-User: {user}\r\n"
-                f"{length}\r\n").encode("ascii") + self.body
+                f"Content-Length: {len(self.body)}\r\n\r\n").encode("ascii") + self.body
+
+
+def question(user: str, route: str, path: str, query: str) -> bytes:
+    """The message of a GET. (There are many, which are no Ask before.)"""
+    what = f"{path}?{query}" if query else path
+    return f"GET /{route}/{what} HTTP/1.1\r\nRoom-User: {user}\r\n\r\n".encode("ascii")
 
 
 def about(method: str, route: str, names: Names, query: str = "", body: bytes = b"") -> Ask:
@@ -100,6 +113,15 @@ class Reply(NamedTuple):
 
 
 @lru_cache(maxsize=1000)
+def _head(head: bytes) -> tuple[int, int]:
+    """The status and the length that the head of an answer says. Most of them are the same."""
+    found = _HEAD.fullmatch(head)
+    if found is None:
+        raise ended()
+    return int(found[1]), int(found[2] or 0)
+
+
+@lru_cache(maxsize=1000)
 def _rulings(body: bytes) -> dict[str, bool]:
     """Most of them are the same. Nobody changes what is returned."""
     return {bit: str(said).startswith("allowed") for bit, said in json.loads(body).items()}
@@ -128,18 +150,16 @@ def listed(body: bytes, most: int) -> Iterator[tuple[bytes, bool]]:
 class Filling:
     """A row, as long as one more question has a place in it."""
 
-    def __init__(self, user: str) -> None:
-        self.asks: list[Ask] = []
-        self._user = user
+    def __init__(self) -> None:
+        self.messages: list[bytes] = []
         self._size = self._cost = 0
 
-    def takes(self, ask: Ask) -> bool:
-        # (its message has no more bytes than that)
-        self._size += len(ask.path) + len(ask.query) + len(self._user) + 100
-        self._cost += LISTING if ask.route == "folder" else 1
-        if self.asks and (self._size > ROW_BYTES or self._cost > ROW):
+    def takes(self, message: bytes, is_listing: bool) -> bool:
+        self._size += len(message)
+        self._cost += (LISTING if is_listing else 1) + message.count(b"/") // DEEP
+        if self.messages and (self._size > ROW_BYTES or self._cost > ROW):
             return False
-        self.asks.append(ask)
+        self.messages.append(message)
         return True
 
 
@@ -147,12 +167,13 @@ def too_many() -> Stop:
     return Stop(413, "too-many", "too much is below it: ask further down")
 
 
-class Denials:
-    """Of users: how many more each may have, and when that was so."""
+class Pace:
+    """Of users: how many more of something each may have, and when that was so. It is no less than
+    `least`."""
 
-    def __init__(self, most: float = MOST_DENIED, pace: float = DENIED_PACE,
+    def __init__(self, most: float, pace: float, least: float = 0.0,
                  clock: Callable[[], float] = time.monotonic) -> None:
-        self._most, self._pace, self._clock = most, pace, clock
+        self._most, self._pace, self._least, self._clock = most, pace, least, clock
         self._left: dict[str, tuple[float, float]] = {}
         self._lock = threading.Lock()
 
@@ -161,19 +182,46 @@ class Denials:
         self._left = {user: (left, then) for user, (left, then) in self._left.items()
                       if left + (now - then) * self._pace < self._most}
 
-    def note(self, user: str, reply: Reply) -> Reply:
-        if reply.status != 403:
-            return reply
+    def _of(self, user: str, now: float) -> float:
+        left, then = self._left.get(user, (self._most, now))
+        return min(self._most, left + (now - then) * self._pace)
+
+    def left(self, user: str) -> float:
+        with self._lock:
+            return self._of(user, self._clock())
+
+    def take(self, user: str) -> float:
+        """One. How many are left then: less than none if there was none."""
         now = self._clock()
         with self._lock:
             if len(self._left) >= MOST_USERS:
                 self._forget(now)
-            left, then = self._left.get(user, (self._most, now))
-            left = min(self._most, left + (now - then) * self._pace) - 1
-            self._left[user] = max(left, 0.0), now
-        if left < 0:
+            left = self._of(user, now) - 1
+            self._left[user] = max(left, self._least), now
+        return left
+
+
+class Denials(Pace):
+    def __init__(self, most: float = MOST_DENIED, pace: float = DENIED_PACE,
+                 clock: Callable[[], float] = time.monotonic) -> None:
+        super().__init__(most, pace, clock=clock)
+
+    def note(self, user: str, reply: Reply) -> Reply:
+        if reply.status == 403 and self.take(user) < 0:
             raise Stop(413, "too-many", "too much of it is denied: ask further down, or later")
         return reply
+
+
+class Changes(Pace):
+    def __init__(self, most: float = MOST_CHANGED, pace: float = CHANGED_PACE,
+                 clock: Callable[[], float] = time.monotonic) -> None:
+        super().__init__(most, pace, -math.inf, clock)
+
+    def refuse(self, user: str) -> None:
+        """Before a request: what is begun is done, however much it is."""
+        if self.left(user) < 0:
+            raise Stop(429, "too-many-requests", "too much was changed in your name: later",
+                       fields={"Retry-After": "60"})
 
 
 def hangs() -> Stop:
@@ -226,9 +274,12 @@ class Talk:
         self._open()
 
     def ask(self, ask: Ask) -> Reply:
-        if ask.method == "GET" or self._room.note is None:
+        if ask.method == "GET":
             return self._asked(ask)
+        self._room.changes.take(self._user)
         note = self._room.note
+        if note is None:
+            return self._asked(ask)
         note(self._user, ask, None)
         status = 0
         try:
@@ -273,9 +324,9 @@ class Row:
     """Questions that are under way, on a connection of their own. Until their answers are here, or
     nobody wants them any more, no other row is sent."""
 
-    def __init__(self, room: "Room", user: str, asks: list[Ask]) -> None:
+    def __init__(self, room: "Room", messages: list[bytes]) -> None:
         self._room = room
-        self._count = len(asks)
+        self._count = len(messages)
         self._at: socket.socket | None = None
         room.take()
         self._is_held = True
@@ -283,7 +334,7 @@ class Row:
             with at_fault():
                 self._at = room.connected()
                 self._at.settimeout(room.seconds)
-                self._at.sendall(b"".join([ask.message(user) for ask in asks]))
+                self._at.sendall(b"".join(messages))
                 # The room answers all that came before the end, and then lets others in.
                 self._at.shutdown(socket.SHUT_WR)
         except BaseException:
@@ -315,14 +366,14 @@ class Row:
         view = memoryview(whole)
         place = 0
         for _ in range(self._count):
-            head = _HEAD.match(whole, place)
-            if head is None:
+            begin = whole.find(b"\r\n\r\n", place, place + LONGEST_HEAD) + 4
+            if begin < 4:
                 raise ended()
-            begin = head.end()
-            place = begin + int(head[2] or 0)
+            status, length = _head(bytes(view[place:begin]))
+            place = begin + length
             if place > len(whole):
                 raise ended()
-            yield Reply(int(head[1]), bytes(view[begin:place]))
+            yield Reply(status, bytes(view[begin:place]))
 
 
 @contextmanager
@@ -344,6 +395,7 @@ class Room:
         self.seconds = seconds
         self.most = most
         self.denials = Denials()
+        self.changes = Changes()
         self.note = note
         self._turn = InTurn()
 
@@ -387,7 +439,7 @@ class Room:
         """Only of what changes nothing: all are sent before the first answer is read."""
         if not asks:
             return []
-        under_way = Row(self, user, asks)
+        under_way = Row(self, [ask.message(user) for ask in asks])
         return list(under_way.replies(under_way.answered()))
 
     def ask_each(self, user: str, asks: Iterable[Ask]) -> Iterator[Reply]:
@@ -396,11 +448,14 @@ class Room:
 
 
 def rows(user: str, asks: Iterable[Ask]) -> Iterator[list[Ask]]:
-    row = Filling(user)
+    row = Filling()
+    its: list[Ask] = []
     for ask in asks:
-        if not row.takes(ask):
-            yield row.asks
-            row = Filling(user)
-            row.takes(ask)
-    if row.asks:
-        yield row.asks
+        message, is_listing = ask.message(user), ask.route == "folder"
+        if not row.takes(message, is_listing):
+            yield its
+            row, its = Filling(), []
+            row.takes(message, is_listing)
+        its.append(ask)
+    if its:
+        yield its

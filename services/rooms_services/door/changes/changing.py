@@ -1,8 +1,11 @@
 """What a line of the journal does to the rows."""
+from collections.abc import Callable
+
 from ...room.paths import Names
 from . import lines
 from .lines import Change, Outcome
 from .nights import restored
+from .order import Made, way_of
 from .store import By, Store
 
 
@@ -23,6 +26,8 @@ class Changing:
             # A door does one thing after the other.
             if change.outcome is Outcome.BEGUN:
                 self._end_begun()
+            elif (begun := lines.read(self._begun)) and begun.door == change.door:
+                change = change._replace(since=begun.at)
             self._begun = line if change.outcome is Outcome.BEGUN else b""
         self._apply(change)
 
@@ -46,7 +51,21 @@ class Changing:
         does = self._does.get((change.method, change.route))
         if does is not None and change.names and change.at > self._since and change.outcome in (
                 Outcome.DONE, Outcome.UNKNOWN):
-            does(change, By(change.at, change.user))
+            self._in_order(change, lambda: does(change, By(change.at, change.user)))
+
+    def _in_order(self, change: Change, does: Callable[[], None]) -> None:
+        """Where it may have come before one whose line came first, nothing is known of what both
+        are about."""
+        made = Made(change.since, change.at, change.door,
+                    change.is_new or change.route in ("folder", "object", "move"),
+                    tuple(map(way_of, [change.names, *([change.to] if change.to else [])])))
+        is_all, places = self._store.order.unsure(made)
+        if not is_all:
+            does()
+        for names in places:
+            self._clear(names)
+            self._unsure(names[:-1])
+        self._store.order.add(made)
 
     def _unsure(self, names: Names) -> None:
         if found := self._store.find(names):

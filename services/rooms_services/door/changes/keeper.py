@@ -46,12 +46,18 @@ class _Mark:
     """A look that isn't done."""
 
 
-def _looked(store: Store, folder: Names, names: list[str]) -> tuple[dict[str, object], Looks]:
+def now() -> int:
+    """In milliseconds, as moments of changes are."""
+    return int(time.time() * 1000)
+
+
+def _looked(store: Store, folder: Names, names: list[str], since: int
+            ) -> tuple[dict[str, object], Looks]:
     found: dict[str, object] = {}
     looks: Looks = {}
     for name in names:
         one = store.find((*folder, name))
-        if one is None:
+        if one is None or store.has_moved(one, since):
             continue
         seen = store.seen.get(one)
         if seen is None or isinstance(seen, _Mark):
@@ -145,7 +151,7 @@ class Keeper:
         """Where the machine ended without a word, the disk may lack lines that nginx wrote."""
         if self._mark and not os.path.lexists(self._mark):
             if not store.told(STOPPED):
-                store.note_gap(int(time.time() * 1000))
+                store.note_gap(now())
             os.close(os.open(self._mark, os.O_CREAT | os.O_WRONLY, 0o600))
         store.keep_told(STOPPED, "")
 
@@ -168,6 +174,8 @@ class Keeper:
             raise
         except sqlite3.DatabaseError as fault:
             print(f"dates begin anew: {fault}", file=sys.stderr, flush=True)
+            # (lines of what changed since the night may have gone)
+            self._doubt = object()
             for end in _ENDS:
                 with suppress(FileNotFoundError):
                     os.unlink(place + end)
@@ -273,9 +281,9 @@ class Keeper:
             self._doubt = None
 
     def _note_gap(self, store: Store) -> None:
-        now = int(time.time() * 1000)
-        store.doubt(now)
-        store.note_gap(now)
+        at = now()
+        store.doubt(at)
+        store.note_gap(at)
 
     def _change_file(self, store: Store) -> None:
         """What was taken is on the disk before the lines go."""
@@ -305,11 +313,18 @@ class Keeper:
         store.settle()
         self._words = words
 
-    def take_night(self) -> None:
-        """The list of the last night, if it isn't taken yet, part by part."""
+    def take_night(self) -> bool:
+        """The list of the last night, if it isn't taken yet, part by part. Whether one was."""
         with suppress(Unknown):
+            before = self._last_night()
             while self._told and self._take_night_part():
                 pass
+            return self._last_night() != before
+        return False
+
+    def _last_night(self) -> str:
+        with self._alone():
+            return self._ready().told(nights.NIGHT)
 
     def _take_night_part(self) -> bool:
         """Whether something is left."""
@@ -347,7 +362,7 @@ class Keeper:
             store = self._ready()
             store.begin()
             if self._days:
-                store.forget_old(int(time.time() * 1000) - self._days * _DAY)
+                store.forget_old(now() - self._days * _DAY)
             store.forget_unused()
             store.commit()
             store.settle()
@@ -374,16 +389,17 @@ class Keeper:
                 return what(self._store)
         raise Unknown
 
-    def children(self, names: Names) -> dict[str, Known]:
-        """Nothing while it isn't known what changed last."""
+    def children(self, names: Names, since: int) -> dict[str, Known]:
+        """Of what hasn't moved since that moment, in milliseconds; nothing while it isn't known
+        what changed last."""
         try:
-            return self._ask(lambda store: store.children(names)) if self.catch_up() else {}
+            return self._ask(lambda store: store.children(names, since)) if self.catch_up() else {}
         except Unknown:
             return {}
 
-    def moments(self, folder: Names) -> dict[str, int]:
-        """When the documents in a folder changed, in seconds, as far as that is known."""
-        return {name: known.at // 1000 for name, known in self.children(folder).items()
+    def moments(self, folder: Names, since: int) -> dict[str, int]:
+        """When these documents in a folder changed, in seconds, as far as that is known."""
+        return {name: known.at // 1000 for name, known in self.children(folder, since).items()
                 if known.at is not None and not known.is_folder}
 
     def vouched(self) -> int | None:
@@ -395,24 +411,26 @@ class Keeper:
         stood there at this moment, in milliseconds."""
         return self._ask(lambda store: store.in_copy(folder, since) if store.vouched() else {})
 
-    def seen(self, folder: Names, names: list[str]) -> tuple[dict[str, object], Looks]:
+    def seen(self, folder: Names, names: list[str], since: int
+             ) -> tuple[dict[str, object], Looks]:
         """What was seen of the bytes of these documents, as far as each change since is known; and
-        for the others, with what is seen now may be kept."""
+        for the others, with what is seen now may be kept. Of what moved since the moment before
+        the caller's rights were asked for it is nothing: these were of something else."""
         if not self.catch_up():
             return {}, {}
         try:
-            return self._ask(lambda store: _looked(store, folder, names))
+            return self._ask(lambda store: _looked(store, folder, names, since))
         except Unknown:
             return {}, {}
 
-    def keep_seen(self, looks: Looks, found: dict[str, object]) -> None:
-        """Of those that didn't change between the look and now."""
+    def keep_seen(self, looks: Looks, found: dict[str, object], since: int) -> None:
+        """Of those that didn't change, nor move, between the look and now."""
         def keep(store: Store) -> None:
             if len(store.seen) > MOST_SEEN:
                 store.seen.clear()
             for name, (one, mark) in looks.items():
                 if store.seen.get(one) is mark:
-                    if name in found:
+                    if name in found and not store.has_moved(one, since):
                         store.seen[one] = found[name]
                     else:
                         del store.seen[one]
@@ -422,6 +440,11 @@ class Keeper:
 
     def find(self, names: Names) -> int | None:
         return self._ask(lambda store: store.find(names))
+
+    def stood(self, names: Names, one: int, since: int) -> bool:
+        """Whether it is what is known at this path, and stood there at that moment."""
+        return self.catch_up() and self._ask(
+            lambda store: store.find(names) == one and not store.has_moved(one, since))
 
     def folders(self, above: int, after: str, most: int) -> list[Inside]:
         return self._ask(lambda store: store.folders(above, after, most))

@@ -14,7 +14,7 @@ from ...room.answers import Answer, Stop, told
 from ...room.paths import Names
 from ...room.room import Reply, Room, too_many
 from ..folders.walk import Node, Step, Walk, refuse_long, too_late, top_of
-from .keeper import Keeper, Unknown
+from .keeper import Keeper, Unknown, now
 from .listed import DOCUMENT, Sizes, may_know, shown
 from .store import Inside, Newest
 
@@ -33,6 +33,8 @@ class Latest:
         self.folder = Step("can", "rx", self._may)
         self.allowed: set[Node] = set()
         self.document = Step("can", DOCUMENT, self._may_know)
+        # Before the room was asked.
+        self.began = now()
 
     def look(self, names: Names) -> Answer:
         top, listing, may = top_of(self.walk, names, "rx")
@@ -104,7 +106,13 @@ class Latest:
         del found[MOST:]
         refuse_long(node for node, _ in found)
         sizes = self._sizes(found)
-        return [{"path": node.path, **shown(sizes.of(node, one.known))} for node, one in found]
+        return [{"path": node.path, **shown(sizes.of(node, one.known))} for node, one in found
+                if self._is_still(node, one)]
+
+    def _is_still(self, node: Node, one: Newest) -> bool:
+        """Else the room was asked about something else that came to its place, or to that of a
+        folder above it, whether or not that is there still."""
+        return self.keeper.stood(tuple(node.path.split("/")[1:]), one.id, self.began)
 
     def _sizes(self, found: list[tuple[Node, Newest]]) -> Sizes:
         sizes = Sizes(self.walk)

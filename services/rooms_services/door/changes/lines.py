@@ -1,9 +1,11 @@
 """A change as a line of the journal, as nginx writes it of what it passed to the room, and the door
 of what it asked for itself (deploy/nginx/changes.conf.in):
 
-  {"v":1,"t":1764471720.123,"u":"bob","m":"PUT","p":"/doc/plan","s":"204","n":"512","to":""}
+  {"v":1,"t":1764471720.123,"u":"bob","m":"PUT","p":"/doc/plan","s":"204","n":"512","to":"",
+   "r":"0.004"}
 
-The moment, the user, method and target, the status, the body's length, and of a move its body. What
+The moment, the user, method and target, the status, the body's length, of a move its body, and how
+many seconds before that moment nginx got the request. What
 a caller wrote is escaped in it, so that no caller can write a line or a field of their own. One
 that was cut off, as on a full disk, may be followed by a whole one without an end of a line.
 
@@ -22,6 +24,7 @@ BEGIN = b'{"v":1,'
 # A target of 16 kB, each byte escaped as six, and a move's body.
 LONGEST = 262_144
 _NUMBER = re.compile(r"[0-9]{1,12}", re.ASCII)
+_SECONDS = re.compile(r"([0-9]{1,6})\.([0-9]{3})", re.ASCII)
 ROUTES = ("doc", "folder", "object", "move")
 
 
@@ -50,6 +53,8 @@ class Change(NamedTuple):
     length: int | None
     to: Names | None
     door: str
+    # Since when it may have been done, where that is known.
+    since: int
 
     @property
     def is_done(self) -> bool:
@@ -68,6 +73,12 @@ def _moved_to(text: str) -> Names | None:
         return names_of_path(json.loads(text.encode("latin-1").decode())["to"])
     except (ValueError, KeyError, TypeError, RecursionError):
         return None
+
+
+def _milliseconds(text: object) -> int:
+    """None of a line of the door's, or of what an earlier version told nginx to write."""
+    found = _SECONDS.fullmatch(text) if isinstance(text, str) else None
+    return 1000 * int(found[1]) + int(found[2]) if found else 0
 
 
 def read(line: bytes) -> Change | None:
@@ -101,7 +112,7 @@ def _change(told: dict[str, object]) -> Change | None:
                   _OUTCOMES.get(status, Outcome.REFUSED), status == "201",
                   int(length) if _NUMBER.fullmatch(length) else None,
                   _moved_to(_text(told["to"])) if route == "move" else None,
-                  _text(told.get("d", "")))
+                  _text(told.get("d", "")), int(at * 1000) - _milliseconds(told.get("r")))
 
 
 def written(at: float, user: str, ask: Ask, status: int | None, door: str) -> bytes:

@@ -12,7 +12,7 @@ from ...room.large import hidden_in
 from ...room.paths import Names
 from ...room.room import Reply, Room, about
 from ..folders.walk import MOST, Node, Step, Walk, top_of
-from .keeper import Keeper
+from .keeper import Keeper, now
 from .store import Known
 
 FOLDER, DOCUMENT = "rxt", "rt"
@@ -80,6 +80,8 @@ class Listed:
         self.known: dict[str, Known] = {}
         self.may_know: set[Node] = set()
         self.sizes = Sizes(self.walk)
+        # Before the room was asked.
+        self.began = now()
         # By /can/, which leaves no record of somebody who tried to open it.
         self.folder = Step("can", FOLDER, self._may)
         self.document = Step("can", DOCUMENT, self._may)
@@ -98,7 +100,7 @@ class Listed:
         self.children += self.walk.every_child(top, listing)
         # (behind the room's answer, so that it is no older)
         if self.keeper and top.is_open:
-            self.known = self.keeper.children(names)
+            self.known = self.keeper.children(names, self.began)
             self._ask_about_parts(listing)
         for child in self.children:
             if top.is_open:
@@ -106,10 +108,19 @@ class Listed:
             else:
                 self.closed.append(child.name)
         self.walk.all()
+        self._forget_others(names)
         return told_as_it_comes({
             "at": top.path, "closed": (name.decode() for name in self.closed),
             "rows": self._rows(), "searches": self.searches,
             "shows": self.keeper.shows if self.keeper else None})
+
+    def _forget_others(self, names: Names) -> None:
+        """What is known of something must not be told because something else could be read that
+        came to its place before the room was asked, and may have gone again since."""
+        if self.keeper and self.known:
+            there = self.keeper.children(names, self.began)
+            self.known = {name: known for name, known in self.known.items()
+                          if there.get(name) == known}
 
     def _ask_about_parts(self, listing: Reply) -> None:
         wholes = {child.name: child for child in self.children if child.has_parts}

@@ -6,6 +6,7 @@ import time
 from typing import NamedTuple
 
 from ...room.paths import Names
+from .order import Order
 
 ROOT = 0
 # What is remembered of the last list of a night that was taken whole, which is its moment, and when
@@ -94,6 +95,7 @@ class Store:
         self._users: dict[str, int] = {}
         # By the number of a document, what was seen of its bytes, until they may have changed.
         self.seen: dict[int, object] = {}
+        self.order = Order()
         self._db = sqlite3.connect(file, check_same_thread=False, isolation_level=None)
         try:
             self._prepare()
@@ -125,9 +127,11 @@ class Store:
 
     def commit(self) -> None:
         self._db.execute("COMMIT")
+        self.order.keep()
 
     def give_up(self) -> None:
         self.give_up_remembered()
+        self.order.take_back()
         if self._db.in_transaction:
             self._db.execute("ROLLBACK")
 
@@ -168,22 +172,33 @@ class Store:
 
     # Rows
 
+    def _inside(self, up: int, name: str) -> tuple[int, bool] | None:
+        """What is known of a name in a folder, and whether that is one; a folder is remembered
+        until it moves or goes."""
+        known = self._folders.get((up, name))
+        if known is not None:
+            return known, True
+        row = self._db.execute("SELECT id, folder FROM node WHERE up = ? AND name = ?",
+                               (up, name)).fetchone()
+        if row is None:
+            return None
+        if row[1]:
+            self._remember(up, name, int(row[0]))
+        return int(row[0]), bool(row[1])
+
+    def _remember(self, up: int, name: str, folder: int) -> None:
+        if len(self._folders) > REMEMBERED:
+            self._folders.clear()
+        self._folders[up, name] = folder
+
     def find(self, names: Names) -> int | None:
-        """What is known at a path; folders are remembered until one of them moves or goes."""
-        found = ROOT
-        for depth, name in enumerate(names, 1):
-            known = self._folders.get((found, name))
-            if known is None:
-                row = self._db.execute("SELECT id, folder FROM node WHERE up = ? AND name = ?",
-                                       (found, name)).fetchone()
-                if row is None or not row[1] and depth < len(names):
-                    return None
-                known = int(row[0])
-                if row[1]:
-                    if len(self._folders) > REMEMBERED:
-                        self._folders.clear()
-                    self._folders[found, name] = known
-            found = known
+        """What is known at a path."""
+        found, is_folder = ROOT, True
+        for name in names:
+            one = self._inside(found, name) if is_folder else None
+            if one is None:
+                return None
+            found, is_folder = one
         return found
 
     def is_folder(self, names: Names) -> bool:
@@ -191,20 +206,30 @@ class Store:
         return not names or (self.find(names[:-1]), names[-1]) in self._folders
 
     def folder(self, names: Names) -> int:
-        """The folder at this path, which the room has, so that it is made here if it lacks."""
-        found = self.find(names)
-        if found is not None and self.is_folder(names):
-            return found
-        above = self.folder(names[:-1])
-        if found is not None:
-            self.drop(found)
-        return self._db.execute("INSERT INTO node(up, name, folder) VALUES(?, ?, 1)",
-                                (above, names[-1])).lastrowid or ROOT
+        """The folder at this path, which the room has, so that it is made here if it lacks, and so
+        are those above it. (There may be two thousand: none is made inside the making of
+        another.)"""
+        found = ROOT
+        for name in names:
+            one = self._inside(found, name)
+            if one and not one[1]:
+                self.drop(one[0])
+                one = None
+            found = one[0] if one else self._made(found, name)
+        return found
+
+    def _made(self, up: int, name: str) -> int:
+        made = self._db.execute("INSERT INTO node(up, name, folder) VALUES(?, ?, 1)",
+                                (up, name)).lastrowid or ROOT
+        self._remember(up, name, made)
+        return made
 
     def drop(self, one: int) -> None:
         """With all that is below it: in the room nothing is, but a line may have been lost."""
-        self._folders.clear()
+        self._forget_place(one)
         if self._db.execute("SELECT 1 FROM node WHERE up = ?", (one,)).fetchone():
+            # (the numbers of folders below it may become those of others)
+            self._folders.clear()
             self.seen.clear()
         self.seen.pop(one, None)
         self._db.execute("WITH RECURSIVE below(id) AS (VALUES(?) UNION ALL SELECT node.id FROM "
@@ -212,9 +237,16 @@ class Store:
                          (one,))
 
     def move(self, one: int, above: int, name: str, at: int) -> None:
-        self._folders.clear()
+        self._forget_place(one)
         self._db.execute("UPDATE node SET up = ?, name = ?, moved = ? WHERE id = ?",
                          (above, name, at, one))
+
+    def _forget_place(self, one: int) -> None:
+        """Of a folder. What is below it is remembered by its number: whoever moves a deep one
+        again and again has no long way gone each time."""
+        row = self._db.execute("SELECT up, name FROM node WHERE id = ?", (one,)).fetchone()
+        if row:
+            self._folders.pop((row[0], row[1]), None)
 
     def put(self, above: int, name: str, is_folder: bool, size: int | None, by: By) -> None:
         row = self._db.execute("SELECT id FROM node WHERE up = ? AND name = ?",
@@ -354,13 +386,15 @@ class Store:
         list was taken whole. One lacks that is new or changed since, or that has moved since a
         moment, itself or with a folder."""
         found = self.find(folder)
-        if found is None or self._has_moved(found, since):
+        if found is None or self.has_moved(found, since):
             return {}
         return dict(self._db.execute(
             "SELECT name, copied FROM node WHERE up = ? AND folder = 0 AND night = ? AND "
             "copied IS NOT NULL AND coalesce(moved, 0) < ?", (found, self.told(COPY), since)))
 
-    def _has_moved(self, one: int, since: int) -> bool:
+    def has_moved(self, one: int, since: int) -> bool:
+        """Itself or with a folder, since a moment in milliseconds: what the room was asked about
+        there since then may have been something else."""
         return self._db.execute(
             "WITH RECURSIVE above(id) AS (VALUES(?) UNION SELECT node.up FROM node, above "
             "WHERE node.id = above.id) SELECT 1 FROM node WHERE id IN above AND moved >= ?",
@@ -391,14 +425,17 @@ class Store:
 
     # What is asked
 
-    def children(self, names: Names) -> dict[str, Known]:
-        """Of what something is known."""
+    def children(self, names: Names, since: int) -> dict[str, Known]:
+        """Of what something is known, and hasn't moved since that moment."""
         folder, now = self.find(names), ahead()
+        if folder is None or self.has_moved(folder, since):
+            return {}
         return {name: _known(is_folder, size, at, who, before, now)
                 for name, is_folder, size, at, who, before in self._db.execute(
                     "SELECT node.name, folder, size, at, who.name, before FROM node LEFT JOIN who "
-                    "ON who.id = node.who WHERE up = ? AND "
-                    "(size IS NOT NULL OR at IS NOT NULL OR before IS NOT NULL)", (folder,))}
+                    "ON who.id = node.who WHERE up = ? AND coalesce(moved, 0) < ? AND "
+                    "(size IS NOT NULL OR at IS NOT NULL OR before IS NOT NULL)",
+                    (folder, since))}
 
     def folders(self, above: int, after: str, most: int) -> list[Inside]:
         """So many, by their names, behind this one."""

@@ -70,8 +70,9 @@ def _key(name: str) -> str:
     return unicodedata.normalize("NFC", name).casefold()
 
 
-# What is known of a folder: when documents in it changed, by their names, in seconds.
-Moments = Callable[[Names], dict[str, int]]
+# What is known of a folder: when documents in it changed that haven't moved since a moment in
+# milliseconds, by their names, in seconds.
+Moments = Callable[[Names, int], dict[str, int]]
 
 
 class Archive:
@@ -79,7 +80,9 @@ class Archive:
         self.room = room
         self.walk = Walk(room, user)
         self.moments = moments
-        # Those of which the caller may know when they changed; and what is known of one folder.
+        # Before the room was asked; of which documents the caller may know when they changed; and
+        # what is known of one folder.
+        self.began = int(time.time() * 1000)
         self.dated: set[Node] = set()
         self._of_folder: tuple[Node | None, dict[str, int]] = None, {}
         self.folders: list[Node] = []
@@ -139,12 +142,13 @@ class Archive:
                 self.dated.add(node)
 
     def _moment(self, node: Node) -> int:
+        """It is sent at its caller's pace: by now something else may stand at its place."""
         if node not in self.dated or not self.moments or not node.above:
             return 0
         if self._of_folder[0] is not node.above:
             path = node.above.path
             self._of_folder = node.above, self.moments(
-                tuple(path.split("/")[1:]) if path != "/" else ())
+                tuple(path.split("/")[1:]) if path != "/" else (), self.began)
         return self._of_folder[1].get(node.name.decode(), 0)
 
     def _places(self, nodes: Iterable[Node]) -> Iterator[str]:

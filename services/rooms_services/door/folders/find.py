@@ -4,7 +4,7 @@ from urllib.parse import unquote_to_bytes
 from ...room.answers import Answer, Stop, told_as_it_comes
 from ...room.paths import Names
 from ...room.room import Reply, Room
-from ...texts.folding import folded
+from ...document_texts.folding import folded
 from .walk import Node, Step, Walk, refuse_long, top_of
 
 LONGEST = 255

@@ -64,7 +64,8 @@ def condition_of(match: str, none: str) -> Condition:
 
 @contextmanager
 def told(would: Would, route: str) -> Iterator[None]:
-    """Who could have changed it, behind what is asked here of the room."""
+    """Who could have changed it, behind what is asked here of the room: that may take long, and
+    nobody waits for it who writes the same."""
     try:
         yield
     except Changed as changed:
@@ -131,10 +132,10 @@ def tag_alone(room: Room, would: Would, user: str, route: str, names: Names, wan
 Put = Callable[[large.Asks, str, Names, bytes, large.Rest], Reply]
 
 
-def replace(room: Room, would: Would, user: str, route: str, names: Names, body: bytes,
-            condition: Condition, put: Put) -> Answer:
+def replace(room: Room, user: str, route: str, names: Names, body: bytes, condition: Condition,
+            put: Put) -> Answer:
     """A list, which `put` sends."""
-    with told(would, route), room.talk(user) as talk:
+    with room.talk(user) as talk:
         stopped = against(talk, route, names, condition)
         if stopped is not None:
             return stopped

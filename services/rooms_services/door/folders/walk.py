@@ -9,7 +9,7 @@ from typing import NamedTuple
 from ...room.answers import Stop
 from ...room.paths import Names, escaped, escaped_name, shown
 from ...room.large import hidden_in
-from ...room.room import Ask, Filling, Reply, Room, Row, listed, too_many
+from ...room.room import Filling, Reply, Room, Row, listed, question, too_many
 
 # No request looks at more, or at longer names together, or for longer.
 MOST = 80_000
@@ -71,8 +71,9 @@ class Walk:
         self.named = 0
         self.asked: deque[tuple[Step, Node]] = deque()
         self.until = time.monotonic() + SECONDS
-        # Addresses of the folders that were asked about last.
+        # Addresses of the folders that were asked about last, and of the last object.
         self._targets: dict[Node | None, str] = {}
+        self._last: tuple[Node | None, str] = None, ""
 
     def note(self, reply: Reply) -> Reply:
         return self.room.denials.note(self.user, reply)
@@ -83,6 +84,11 @@ class Walk:
     def target(self, node: Node) -> str:
         """Its address, escaped."""
         # (most are documents, each asked about a few times)
+        if self._last[0] is not node:
+            self._last = node, self._target(node)
+        return self._last[1]
+
+    def _target(self, node: Node) -> str:
         if not node.is_folder and (known := self._targets.get(node.above)) is not None:
             return f"{known}/{escaped_name(node.name.decode())}"
         way: list[Node] = []
@@ -100,15 +106,16 @@ class Walk:
                     del self._targets[next(iter(self._targets))]
         return found
 
-    def _next(self) -> tuple[list[Ask], list[tuple[Step, Node]]]:
-        row = Filling(self.user)
+    def _next(self) -> tuple[list[bytes], list[tuple[Step, Node]]]:
+        row = Filling()
         its: list[tuple[Step, Node]] = []
         while self.asked:
             step, node = self.asked[0]
-            if not row.takes(Ask("GET", step.route, self.target(node), step.query)):
+            message = question(self.user, step.route, self.target(node), step.query)
+            if not row.takes(message, step.route == "folder"):
                 break
             its.append(self.asked.popleft())
-        return row.asks, its
+        return row.messages, its
 
     def is_late(self) -> bool:
         return time.monotonic() > self.until
@@ -120,18 +127,26 @@ class Walk:
         """Until nothing is left to be asked, or it needn't go on."""
         under_way: Row | None = None
         its: list[tuple[Step, Node]] = []
+        # (the next row is there before the room waits for it)
+        row, its_next = self._next()
         try:
-            while (self.asked or under_way) and goes_on():
+            while (row or under_way) and goes_on():
                 whole = under_way.answered() if under_way else bytearray()
                 before, its_before = under_way, its
-                row, its = self._next()
-                under_way = Row(self.room, self.user, row) if row else None
+                under_way, its = Row(self.room, row) if row else None, its_next
+                row, its_next = [], []
                 if before:
                     for (step, node), reply in zip(its_before, before.replies(whole), strict=True):
-                        step.then(node, self.note(reply))
+                        if reply.status == 403:
+                            self.note(reply)
+                        step.then(node, reply)
+                row, its_next = self._next()
         finally:
+            self.asked.extendleft(reversed(its_next))
             if under_way:
                 under_way.drop()
+                # (it was sent, and nobody looks at its answers)
+                self.asked.extendleft(reversed(its))
 
     def all(self) -> None:
         """Until nothing is left."""

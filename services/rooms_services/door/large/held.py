@@ -1,11 +1,12 @@
 """Documents that are written, moved or removed at the moment. Two who write at once would write to
 the same parts."""
 import threading
-from collections.abc import Iterator
-from contextlib import contextmanager
+from collections.abc import Callable, Iterator
+from contextlib import AbstractContextManager, contextmanager
 
 from ...room.answers import Stop
 from ...room.paths import Names
+from ...room.room import Room, about
 from ...room.turns import PATIENCE
 
 
@@ -16,9 +17,18 @@ class Held:
         self._changed = threading.Condition()
         self._names: set[Names] = set()
 
+    def is_free(self, names: set[Names]) -> bool:
+        with self._changed:
+            return self._names.isdisjoint(names)
+
     @contextmanager
-    def alone(self, *all_of: Names) -> Iterator[None]:
+    def alone(self, *all_of: Names, may_wait: Callable[[], bool] = lambda: True
+              ) -> Iterator[None]:
+        """Whoever may not wait goes on at once, and is denied."""
         names = set(all_of)
+        if not self.is_free(names) and not may_wait():
+            yield
+            return
         with self._changed:
             if not self._changed.wait_for(lambda: self._names.isdisjoint(names), PATIENCE):
                 raise Stop(503, "busy", "somebody else writes it; nothing was done",
@@ -33,3 +43,9 @@ class Held:
 
 
 HELD = Held()
+
+
+def alone(room: Room, user: str, *all_of: Names) -> AbstractContextManager[None]:
+    """To whom the way there is closed nobody says by a wait that somebody writes there."""
+    return HELD.alone(*all_of, may_wait=lambda: all(
+        room.ask(user, about("GET", "can", names)).status != 403 for names in all_of))

@@ -68,7 +68,7 @@ class Removal:
             return self.room.ask(self.user, Ask("DELETE", "object", self.goes.walk.target(node)))
         names = tuple(node.path.split("/")[1:])
         with HELD.alone(names), self.room.talk(self.user) as talk:
-            return together.remove(talk.ask, names)
+            return together.remove(talk.ask, names, talk.rest)
 
 
 def remove(room: Room, user: str, names: Names, chosen: frozenset[str],

@@ -8,6 +8,7 @@ Parts are made by whoever makes the document, or owns it. So each has its owner 
 nobody can do with a part what they couldn't do with the document."""
 from collections.abc import Callable, Iterable, Iterator
 from itertools import islice
+from typing import TypeVar
 
 from rooms_admin.room import in_parts
 from rooms_admin.room.in_parts import LARGEST, Manifest
@@ -22,10 +23,11 @@ from ...room.space import Space
 from ...room.tags import tag_of
 from ..folders.matched import Condition, against, told
 from ..folders.would import Would
-from .held import HELD
+from .held import alone
 
 # Ends the request unless its condition holds. What is there, or nothing.
 Look = Callable[[Talk], Reply | None]
+Done = TypeVar("Done")
 # What two objects have to have alike, so that everybody has the same rights to both.
 ALIKE = ("dacl", "sacl", "attr")
 
@@ -58,12 +60,30 @@ def refused(reply: Reply, names: Names, number: int) -> Stop:
     return Stop(reply.status, reply.why, at=shown(names) if is_its_own else reply.at, more=told)
 
 
+class Untaken(Upload):
+    """One of which nothing has come."""
+
+    def __init__(self, size: int, space: Space) -> None:
+        super().__init__(size, self._refuse, space)
+
+    def _refuse(self, _: int) -> bytes:
+        raise Stop(503, "busy", "its rights have just changed; nothing was done",
+                   fields={"Retry-After": "1"})
+
+
 class Copied(Upload):
     """Another document of the room."""
 
     def __init__(self, parts: Parts, space: Space) -> None:
         some = iter(parts)
         super().__init__(parts.manifest.size, lambda _: next(some), space)
+
+
+def may_write(ask: Asks, names: Names) -> Reply:
+    """What the room says of the right to write it, or to add it where nothing is."""
+    may = ask(about("GET", "can", names, "w"))
+    is_new = may.status == 404 and may.at == shown(names)
+    return ask(about("GET", "can", names[:-1], "w")) if is_new else may
 
 
 class Writing:
@@ -77,7 +97,7 @@ class Writing:
     def all(self) -> Answer:
         return self._or_back(self._all)
 
-    def _or_back(self, does: Callable[[], Answer]) -> Answer:
+    def _or_back(self, does: Callable[[], Done]) -> Done:
         try:
             return does()
         except BaseException:
@@ -86,11 +106,12 @@ class Writing:
 
     def _seen(self) -> tuple[Reply | None, Manifest | None, int]:
         """What is there, its list of parts, and how many parts there are."""
-        large.refuse_long_name(self.names)
         if in_parts.places_for(self.upload.size) > in_parts.MOST:
             raise Stop(413, "too-large", "a document of too many parts")
         with self.room.talk(self.user) as talk:
             before = self.look(talk)
+        # (behind the look, which ends what is about the root)
+        large.refuse_long_name(self.names)
         # (most are new, and have none)
         is_any = large.is_there(self._ask, large.part(self.names, 1))
         count = large.count_by_rows(self.room, self.user, self.names) if is_any else 0
@@ -99,23 +120,21 @@ class Writing:
                        shown(self.names))
         return before, in_parts.read(before.body) if before else None, count
 
-    def prepared(self) -> Answer:
-        return self._or_back(self._prepared)
-
-    def _prepared(self) -> Answer:
+    def prepared(self) -> None:
         """Before any byte is sent: what stands against it."""
+        self._or_back(self._prepared)
+
+    def _prepared(self) -> None:
         before, old, count = self._allowed()
         if before:
             self._free(old, count)
-        return Answer(204)
 
     def _allowed(self) -> tuple[Reply | None, Manifest | None, int]:
         """What was seen, unless the caller may not write it, or the room lacks the place: how much
         is left is told to nobody else."""
         before, old, count = self._seen()
-        asked = self.names if before else self.names[:-1]
         with self.room.talk(self.user) as talk:
-            may = talk.ask(about("GET", "can", asked, "w"))
+            may = may_write(talk.ask, self.names)
             if may.status == 200 and not may.rulings().get("w"):
                 # The room's own denial, which is recorded as that of any document.
                 may = talk.ask(about("PUT", "doc", self.names, body=before.body if before else b""))
@@ -254,28 +273,34 @@ class Writing:
 
 
 def empty(ask: Asks, names: Names, numbers: Iterable[int], rest: Rest | None = None) -> None:
-    """What was replaced is gone. Whoever may write may do that."""
+    """What was replaced is gone. Whoever may write the document may do that; what has no more than
+    the name of a part stays."""
     for number in large.resting(sorted(numbers), rest):
-        ask(about("PUT", "doc", large.part(names, number)))
+        place = large.part(names, number)
+        if ask(about("GET", "can", place, "w")).rulings().get("w"):
+            ask(about("PUT", "doc", place))
 
 
 def put_small(ask: Asks, names: Names, body: bytes, rest: Rest | None = None) -> Reply:
     """One of at most 1 MiB. The parts of one that was there before stay, and are empty."""
-    count = large.count(ask, names)
-    filled = _filled(ask, names, count) if count else ()
+    has_parts = bool(names) and large.is_there(ask, large.part(names, 1))
+    used = _used(ask, names) if has_parts else ()
     reply = ask(about("PUT", "doc", names, body=body))
     if reply.status in (201, 204):
-        empty(ask, names, filled, rest)
+        # (they are counted behind it, since there may be very many)
+        empty(ask, names, range(1, large.count(ask, names, rest) + 1) if used is None else used,
+              rest)
     return reply
 
 
-def _filled(ask: Asks, names: Names, count: int) -> Iterable[int]:
-    """Who may not read it doesn't know which of them have something in them."""
+def _used(ask: Asks, names: Names) -> Iterable[int] | None:
+    """The numbers of those that have something in them, or None: who may not read it doesn't
+    know."""
     if not ask(about("GET", "can", names, "r")).rulings().get("r"):
-        return range(1, count + 1)
+        return None
     before = ask(about("GET", "doc", names))
     old = in_parts.read(before.body) if before.status == 200 else None
-    return [number for number in old.numbers if number <= count] if old else ()
+    return old.numbers if old else ()
 
 
 class Against(Stop):
@@ -316,17 +341,16 @@ def _small(room: Room, user: str, names: Names, body: bytes, condition: Conditio
 
 def replace(room: Room, would: Would, user: str, names: Names, body: "bytes | Upload",
             condition: Condition) -> Answer:
-    with HELD.alone(names), told(would, "doc"):
+    with told(would, "doc"), alone(room, user, names):
         if isinstance(body, Upload):
             return Writing(room, user, names, body, _look(names, condition)).all()
         return _small(room, user, names, body, condition)
 
 
 def prepare(room: Room, would: Would, user: str, names: Names, size: int, condition: Condition,
-            space: Space) -> Answer:
-    upload = Upload(size, lambda _: b"", space)
-    with HELD.alone(names), told(would, "doc"):
-        return Writing(room, user, names, upload, _look(names, condition)).prepared()
+            space: Space) -> None:
+    with told(would, "doc"), alone(room, user, names):
+        Writing(room, user, names, Untaken(size, space), _look(names, condition)).prepared()
 
 
 def _as_seen(names: Names, first: Reply | None) -> Look:
@@ -349,5 +373,5 @@ def _as_seen(names: Names, first: Reply | None) -> Look:
 def write(room: Room, user: str, names: Names, upload: Upload, seen: Reply | None = None
           ) -> Answer:
     """Over whatever is there, or over what was seen."""
-    with HELD.alone(names):
+    with alone(room, user, names):
         return Writing(room, user, names, upload, _as_seen(names, seen)).all()

@@ -15,7 +15,7 @@ from ...room.room import Ask, Reply, Room, about
 from ..folders import matched
 from ..folders.goes import barrier
 from ..folders.would import Would
-from .held import HELD
+from .held import alone
 from .replacing import refused
 
 
@@ -30,13 +30,18 @@ def _from_the_last(count: int) -> Iterator[int]:
 
 
 def remove(ask: Asks, names: Names, rest: Rest | None = None) -> Reply:
-    """The parts first, so that none is left of what is gone. One of it that can't go is emptied."""
+    """The parts first, so that none is left of what is gone. One of it that can't go is emptied.
+    What each of them allows is asked before: very many may be somebody else's, and have no more
+    than the name of one."""
     count = large.count_of(ask, names, rest)
-    if count and _may_go(ask, names):
+    above = _may_above(ask, names) if count else Reply(404, b"")
+    if _may_go(ask, names, above):
         used = _used(ask, names, count)
         for number in large.resting(_all_of(ask, names, count, used), rest):
             place = large.part(names, number)
-            if ask(about("DELETE", "object", place)).status != 204 and number in used:
+            if _may_go(ask, place, above):
+                ask(about("DELETE", "object", place))
+            elif number in used and _may(ask, place, "w"):
                 ask(about("PUT", "doc", place))
     return ask(about("DELETE", "object", names))
 
@@ -54,22 +59,30 @@ def remove_left(ask: Asks, names: Names, rest: Rest | None = None) -> Reply:
     return reply
 
 
-def _may_go(ask: Asks, names: Names) -> bool:
+def _may_above(ask: Asks, names: Names) -> Reply:
+    return ask(about("GET", "can", names[:-1], "Dw"))
+
+
+def _may_go(ask: Asks, names: Names, above: Reply) -> bool:
+    """By what is said of the folder."""
+    if above.status != 200:
+        return False
     own = ask(about("GET", "can", names, "d"))
-    above = ask(about("GET", "can", names[:-1], "Dw"))
-    return own.status == above.status == 200 and not barrier(own.told, above.told)
+    return own.status == 200 and not barrier(own.told, above.told)
 
 
 def move(ask: Asks, names: Names, to: Names, rest: Rest | None = None) -> Reply:
     """The document last: it is where it was until all of it is at the new place. What isn't of it,
     and has no more than the name of a part, stays where it may not be moved."""
     count = large.count_of(ask, names, rest) if names and to else 0
-    if not count or large.is_there(ask, to):
+    if not count or large.is_there(ask, to) or not _may(ask, to[:-1], "w"):
         return ask(moving(names, to))
     large.refuse_long_name(to)
-    used = _used(ask, names, count)
+    used, above = _used(ask, names, count), _may_above(ask, names)
     moved: list[int] = []
     for number in large.resting(chain(_all_of(ask, names, count, used), [0]), rest):
+        if number not in used and not _may_go(ask, large.part(names, number), above):
+            continue
         reply = ask(moving(_place(names, number), _place(to, number)))
         if reply.status == 204:
             moved.append(number)
@@ -138,26 +151,26 @@ def _may(ask: Asks, names: Names, right: str) -> bool:
 
 
 def removed(room: Room, user: str, names: Names) -> Answer:
-    with HELD.alone(names), room.talk(user) as talk:
+    with alone(room, user, names), room.talk(user) as talk:
         return remove(talk.ask, names, talk.rest).answer()
 
 
 def left_removed(room: Room, user: str, names: Names) -> Answer:
-    with HELD.alone(names), room.talk(user) as talk:
+    with alone(room, user, names), room.talk(user) as talk:
         return remove_left(talk.ask, names, talk.rest).answer()
 
 
 def moved(room: Room, user: str, names: Names, to: Names) -> Answer:
-    with HELD.alone(names, to), room.talk(user) as talk:
+    with alone(room, user, names, to), room.talk(user) as talk:
         return move(talk.ask, names, to, talk.rest).answer()
 
 
 def given(room: Room, user: str, names: Names, body: bytes) -> Answer:
-    with HELD.alone(names), room.talk(user) as talk:
+    with alone(room, user, names), room.talk(user) as talk:
         return set_at_all(talk.ask, "attr", names, body, talk.rest).answer()
 
 
 def listed(room: Room, would: Would, user: str, route: str, names: Names, body: bytes,
            condition: matched.Condition) -> Answer:
-    with HELD.alone(names):
-        return matched.replace(room, would, user, route, names, body, condition, set_at_all)
+    with matched.told(would, route), alone(room, user, names):
+        return matched.replace(room, user, route, names, body, condition, set_at_all)

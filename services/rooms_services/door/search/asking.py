@@ -1,6 +1,6 @@
-"""Asks the keeper of texts (texts/keeper.py) about single documents, by their numbers in the last
-night's copy. It may have been taken over: what it says is held to its form, and nothing that is
-shown of a document's text is its own."""
+"""Asks the keeper of texts (document_texts/keeper.py) about single documents, by their numbers in
+the last night's copy. It may have been taken over: what it says is held to its form, and nothing
+that is shown of a document's text is its own."""
 import json
 import re
 import socket
@@ -9,6 +9,8 @@ from typing import Any, NamedTuple
 from ...room.answers import Stop
 
 SECONDS, LONGEST = 30.0, 4 << 20
+# So many documents at once: each has some thirty parts at most.
+_PARTS_OF = 10_000
 _NIGHT = re.compile(r"\d{4}-\d\d-\d\d\.\d{6}", re.ASCII)
 
 
@@ -69,6 +71,21 @@ class Asking:
         if not (found.counts.keys() <= asked and found.unknown <= asked
                 and 0 <= found.empty <= len(asked) and _NIGHT.fullmatch(found.night)):
             raise no_texts()
+        return found
+
+    def parts(self, numbers: list[int]) -> list[set[int] | None]:
+        """Of which parts each of these documents is; nothing where nobody knows that."""
+        found: list[set[int] | None] = []
+        for at in range(0, len(numbers), _PARTS_OF):
+            some = numbers[at:at + _PARTS_OF]
+            said: Any = self._ask({"do": "parts", "numbers": some})
+            try:
+                row = [None if one is None else set(map(int, one)) for one in said["parts"]]
+            except (KeyError, TypeError, ValueError):
+                raise no_texts() from None
+            if len(row) != len(some):
+                raise no_texts()
+            found += row
         return found
 
     def sums(self, numbers: list[int]) -> list[bytes]:

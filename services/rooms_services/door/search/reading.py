@@ -1,14 +1,14 @@
 """What words stand in bytes that were read just now in the caller's name. A process that has
-nothing else takes the text out of them (texts/extract.py); nothing of it is kept."""
+nothing else takes the text out of them (document_texts/extract.py); nothing of it is kept."""
 import threading
 import time
 from collections.abc import Iterable, Iterator
 from concurrent.futures import ThreadPoolExecutor
 from typing import NamedTuple
 
-from ...texts import feed
-from ...texts.folding import around, folded, plain
-from ...texts.sink import State
+from ...document_texts import feed
+from ...document_texts.folding import around, folded, plain
+from ...document_texts.sink import State
 
 # Documents that are read at once: for one search, and for all of a door.
 AT_ONCE, MOST = 3, 4

@@ -9,7 +9,7 @@ the caller and looked through; and where nobody knows what changed since, nothin
 is shown was read now in the name of the caller too: so lists have it recorded, what is shown of a
 text is of these bytes, and it is shown only if they are the bytes in which the words stood."""
 import time
-from collections.abc import Iterator
+from collections.abc import Container, Iterator
 from dataclasses import dataclass, field
 
 from rooms_admin.room import in_parts
@@ -20,10 +20,10 @@ from ...room.answers import Answer, Stop, told
 from ...room.parts import Parts, joined
 from ...room.paths import Names
 from ...room.room import Ask, Reply, Room
-from ...texts.extract import LARGEST
-from ...texts.folding import words_of
-from ...texts.sink import State
-from ...texts.store import sum_of
+from ...document_texts.extract import LARGEST
+from ...document_texts.folding import words_of
+from ...document_texts.sink import State
+from ...document_texts.store import sum_of
 from ..changes.keeper import Keeper, Unknown
 from ..folders.find import text_of
 from ..folders.walk import MOST, Node, Step, Walk, refuse_long, top_of
@@ -71,9 +71,9 @@ class Search:
         self.can_folder = Step("can", "rx", self._folder)
         self.can_document = Step("can", "r", self._document)
         self.can_part = Step("can", "r", self._part)
-        # Whose parts are asked about, and documents of which one is closed.
+        # What has a part's name: whose that would be, and the numbers of those that are closed.
         self.of_part: dict[Node, bytes] = {}
-        self.closed: set[tuple[Node | None, bytes]] = set()
+        self.closed: dict[tuple[Node | None, bytes], set[int]] = {}
         self.list = Step("folder", "", self._children)
         self.unread = self.without = 0
         # In milliseconds, before the room was asked.
@@ -100,16 +100,24 @@ class Search:
     def _part(self, part: Node, reply: Reply) -> None:
         whole = self.of_part.pop(part)
         if not reply.rulings().get("r"):
-            self.closed.add((part.above, whole))
+            self.closed.setdefault((part.above, whole), set()).add(int(part.name[-4:]))
 
     def _document(self, node: Node, reply: Reply) -> None:
-        """One in parts has no text for who may not read one of them, whatever is in it."""
-        if not reply.rulings().get("r"):
-            return
-        if (node.above, node.name) in self.closed:
-            self.without += 1
-        else:
+        if reply.rulings().get("r"):
             self.readable.append(node)
+
+    def _is_closed(self, node: Node, parts: Container[int]) -> bool:
+        """One in parts has no text for who may not read one of them, whatever is in it. Whoever may
+        add beside it may lay others there, which are none of its own."""
+        return any(one in parts for one in self.closed.get((node.above, node.name), ()))
+
+    def _leave_closed(self, known: dict[int, Node], asking: Asking) -> None:
+        beside = [number for number, node in known.items()
+                  if (node.above, node.name) in self.closed]
+        for number, parts in zip(beside, asking.parts(beside), strict=True):
+            if self._is_closed(known[number], range(in_parts.MOST + 1) if parts is None else parts):
+                self.without += 1
+                del known[number]
 
     # What is in it
 
@@ -128,6 +136,7 @@ class Search:
         if self._vouched() != copy:
             raise no_texts()
         with Asking(self.texts.keeper, self.texts.room, copy) as asking:
+            self._leave_closed(known, asking)
             found = asking.match(list(known), self.words)
             hits = self._hits(known, found)
             shown, is_whole = self._shown(hits, asking)
@@ -212,6 +221,9 @@ class Search:
             manifest = in_parts.read(body)
             if manifest and manifest.size > left:
                 continue
+            if manifest and self._is_closed(node, manifest.numbers):
+                # (it is looked through as one that has nothing in it)
+                self.without, manifest, body = self.without + 1, None, b""
             left -= len(body := self._whole(node, manifest) if manifest else body)
             yield node, body
 
@@ -287,4 +299,10 @@ def search(room: Room, user: str, names: Names, query: str, texts: Texts | None,
     words = words_of(text_of(query))
     if not words:
         raise Stop(400, "bad-query", "one to eight words, each of two letters and more")
+    try:
+        return Search(room, user, words, texts, keeper).look(names)
+    except Stop as stop:
+        # A night's texts are there some seconds before its list is taken by itself.
+        if stop.why != "no-texts" or not keeper.take_night():
+            raise
     return Search(room, user, words, texts, keeper).look(names)

@@ -65,6 +65,8 @@ def read(body: bytes, wanted: str) -> Node:
     parser.StartElementHandler = builder.start
     parser.EndElementHandler = builder.end
     parser.CharacterDataHandler = builder.text
+    # Else each line end is a call, which copies all before it.
+    parser.buffer_text = True
     parser.StartDoctypeDeclHandler = builder.doctype
     try:
         parser.Parse(body, True)

@@ -208,15 +208,16 @@ class Drive:
                     other.token in call.tokens for other in there if other.names == lock.names):
                 continue
             self._passes(call, names)
-            raise Stop(423, "locked", self._told(call, names, lock))
+            if told := self._told(call, names, lock):
+                raise Stop(423, "locked", told)
 
     def _told(self, call: Call, names: Names, lock: Lock) -> str:
         """A lock is named where the way to it is open. Of another one nobody is told who may not
-        move or remove what it is in."""
+        move or remove what it is in: the room says that, as where nothing is locked."""
         if call.ask(about("GET", "can", lock.names)).status != 403:
             return f"locked by {lock.user}: {lock.path}"
         if trees.kept(call, [(names, True)]):
-            raise Stop(403, "denied", f"it may not be removed: {shown(names)}")
+            return ""
         return f"something in it is locked: {shown(names)}"
 
     def told_in(self, call: Call, names: Names) -> dict[str, list[Lock]]:

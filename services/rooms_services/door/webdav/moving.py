@@ -164,7 +164,7 @@ def _copy_parts(drive: Drive, call: Call, to: Names, manifest: Manifest) -> Answ
 def _refuse_parts(call: Call, *places: Names) -> None:
     """A document of parts takes no folder's place, nor a folder its."""
     for names in places:
-        if large.count(call.ask, names):
+        if large.is_there(call.ask, large.part(names, 1)):
             raise Stop(409, "wrong-kind", f"remove it first: {shown(names)}")
 
 

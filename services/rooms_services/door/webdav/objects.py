@@ -13,7 +13,7 @@ from ...room.answers import Stop
 from ...room.paths import Names, shown
 from ...room.room import ROW, Ask, Reply, about, listed
 from ...room.tags import tag_of
-from ..changes.keeper import Keeper
+from ..changes.keeper import Keeper, now
 
 # Documents, of up to 1 MiB each, that are in memory at once.
 ROW_OF_DOCUMENTS = 8
@@ -122,26 +122,26 @@ def measured(by: Asks, above: Names, children: list[Child], with_sums: bool,
     """Each, with the measure of a document that the caller may read. The room has no other way to
     tell a length than all of the bytes, so where it is known what changed, these are read once."""
     for place in range(0, len(children), ROW):
-        row = children[place:place + ROW]
+        row, began = children[place:place + ROW], now()
         names = [child.name for child in row if not child.folder]
         cans = by.each(about("GET", "can", (*above, name), "r") for name in names)
         readable = [name for name, can in zip(names, cans, strict=True)
                     if can.rulings().get("r")]
-        found = _remembered(by, above, readable, with_sums, keeper)
+        found = _remembered(by, above, readable, with_sums, keeper, began)
         for child in row:
             yield child, found.get(child.name)
 
 
 def _remembered(by: Asks, above: Names, readable: list[str], with_sums: bool,
-                keeper: Keeper | None) -> dict[str, Measure]:
+                keeper: Keeper | None, began: int) -> dict[str, Measure]:
     if keeper is None:
         return _measures(by, [(*above, name) for name in readable], with_sums)
-    seen, looks = keeper.seen(above, readable)
+    seen, looks = keeper.seen(above, readable, began)
     # (one that was read without sums lacks these)
     known = {name: one for name, one in seen.items()
              if isinstance(one, Measure) and (one.sums or not with_sums)}
     read = _measures(by, [(*above, name) for name in readable if name not in known], with_sums)
-    keeper.keep_seen(looks, dict(read))
+    keeper.keep_seen(looks, dict(read), began)
     return known | read
 
 

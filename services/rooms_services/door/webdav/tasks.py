@@ -79,7 +79,8 @@ class Tasks:
         with self._ending:
             for number, user, told, since in self._left():
                 assert isinstance(told, str) and isinstance(since, float)
-                if 0 <= self._now() - since < SECONDS:
+                # (the clock may have been set back meanwhile)
+                if abs(self._now() - since) < SECONDS:
                     made, place, old = (one and tuple(one) for one in json.loads(told))
                     self._end_one(asks(str(user)), Task(str(user), made, place, old))
                 self._end(number)

@@ -1,0 +1,131 @@
+"""What `check` looks at of nginx: its answers for rooms, and its files."""
+import http.client
+import os
+import re
+
+from ..host import changes, commands, root
+from ..room import settings
+from ..site import connections, served, template
+from ..cli.report import Refused
+from ..host.commands import printed
+from ..room.settings import Room
+from .finding import CRITICAL, OK, WARNING, Finding
+
+# What Debian's nginx.conf has, and docs/capacity.md counts on.
+CONNECTIONS = 768
+# Seconds that nginx may take for a look at its files: it asks for the names in them.
+PATIENCE = 20
+# What nginx says where it does its part: it asks for a password, or sends on to where it does.
+_ASKS = (200, 301, 302, 303, 307, 308, 401, 403, 429)
+_POLICY = "default-src 'none'; script-src 'self'; "
+_REALM = re.compile(r'Basic realm="rooms(-[a-z0-9-]+)?"', re.ASCII)
+
+
+def _place(room: Room) -> tuple[str, str] | None:
+    """The host and the path at which nginx shows a room, if it does. Beside other sites its names
+    tell ours, so it is asked by one."""
+    name = room.name
+    if room.behind or room.unit != f"rooms@{name}":
+        return None
+    if room.host:
+        return room.host, "/"
+    file = root.ROOT + template.SETTINGS
+    host = settings.front(file).hosts[0] if os.path.exists(file) else ""
+    return host, "/" if name == "office" else f"/{name}/"
+
+
+def _is_ours(got: http.client.HTTPResponse) -> bool:
+    """Our site has this policy on each page of its own, and asks for passwords of rooms."""
+    return (got.headers.get("Content-Security-Policy", "").startswith(_POLICY)
+            or _REALM.match(got.headers.get("WWW-Authenticate", "")) is not None)
+
+
+def see_front(room: Room) -> list[Finding]:
+    """Through nginx, as far as one gets without a password: it listens, knows the room's place, and
+    asks for a password. Beyond that its files have to say where the room is."""
+    place = _place(room)
+    if place is None:
+        return []
+    if not _passes_on(room):
+        return [(CRITICAL, "nginx passes nothing on to its socket")]
+    for asked in (http.client.HTTPConnection(served.FRONT, timeout=20), served.Named(place[0])):
+        try:
+            asked.request("GET", place[1] + "can/?", headers={
+                "Connection": "close", **({"Host": place[0]} if place[0] else {})})
+            got = asked.getresponse()
+            got.read(1 << 16)
+            if _is_ours(got):
+                return [(OK, "nginx answers") if got.status in _ASKS else
+                        (CRITICAL, f"nginx answers {got.status} for it")]
+            if got.status < 300 or got.status > 399:
+                break
+        except (OSError, http.client.HTTPException) as fault:
+            return [(CRITICAL, f"nginx doesn't answer: {fault}")]
+        finally:
+            asked.close()
+    return [(CRITICAL, f"another site of nginx's answers for {place[0]}: HOSTS in /etc/rooms/site "
+             "names those of the rooms; then rooms-admin setup")]
+
+
+def _passes_on(room: Room) -> bool:
+    where = re.escape(f"unix:/run/rooms/{room.name}/socket")
+    try:
+        with open(f"{root.ROOT}/etc/nginx/sites-enabled/rooms", encoding="utf-8",
+                  errors="replace") as source:
+            return re.search(rf"{where}\b", source.read(), re.ASCII) is not None
+    except OSError:
+        return False
+
+
+def refusal() -> str:
+    """What nginx says against its files, with which it would have to start. It has others until
+    then, so nobody sees it before. Only root can have them looked at."""
+    if os.geteuid() != 0 or not served.shows_rooms():
+        return ""
+    said = changes.nginx_says(PATIENCE)
+    if not said:
+        return ""
+    return (f"nginx refuses its files, and can't start again: {said}: mend that line, and look by "
+            "nginx -t")
+
+
+def see_files() -> list[Finding]:
+    try:
+        said = refusal()
+    except commands.Slow as slow:
+        return [(WARNING, str(slow))]
+    return [(CRITICAL, said)] if said else []
+
+
+def see_connections() -> list[Finding]:
+    """How many connections nginx holds for each of its processes, where it shows rooms; and whether
+    no address can take them all."""
+    if not (served.shows_rooms() and os.path.exists(f"{root.ROOT}/etc/nginx/nginx.conf")):
+        return []
+    found: list[Finding] = []
+    held = connections.of_process(root.ROOT)
+    if held < CONNECTIONS:
+        found.append((WARNING, f"nginx holds {held} connections for each of its processes, less "
+                      f"than the {CONNECTIONS} of Debian: worker_connections in "
+                      "/etc/nginx/nginx.conf"))
+    if os.path.exists(root.ROOT + connections.FILE) and printed(
+            ["systemctl", "is-active", connections.UNIT]) != "active":
+        found.append((WARNING, "one address can take all connections of nginx's, and keep others "
+                      f"out: systemctl restart {connections.UNIT.removesuffix('.service')}"))
+    return found or [(OK, "")]
+
+
+def see_tls() -> list[Finding]:
+    """A site that has none, unless somebody has said that it is meant so."""
+    file = root.ROOT + template.SETTINGS
+    if not (os.path.exists(file) and served.shows_rooms()):
+        return []
+    try:
+        front = settings.front(file)
+    except Refused:
+        # That is told by the look at its certificate.
+        return []
+    if front.certificate or front.unencrypted:
+        return []
+    return [(WARNING, "passwords and documents travel unencrypted: rooms-admin setup --tls, or "
+             f"UNENCRYPTED=yes in {template.SETTINGS} if that is meant")]

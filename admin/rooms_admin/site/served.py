@@ -1,0 +1,78 @@
+"""What nginx of this machine serves by TLS: for which names, and whether it has read a new
+certificate. Until it reads its files anew it goes on with the one of before."""
+import http.client
+import os
+import socket
+import ssl
+
+from ..cli.report import Refused
+from ..host import root
+from ..host.commands import printed
+from ..room import settings
+from . import template
+
+# Only tests set another address of nginx.
+FRONT = os.environ.get("ROOMS_FRONT", "127.0.0.1")
+_BEGIN, _END = "-----BEGIN CERTIFICATE-----", "-----END CERTIFICATE-----"
+
+
+class Named(http.client.HTTPSConnection):
+    """This machine, by the name of a site. Its certificate is looked at by itself."""
+
+    def __init__(self, host: str) -> None:
+        super().__init__(FRONT, timeout=20)
+        self.named = host
+        self.certificate: bytes | None = None
+
+    def connect(self) -> None:
+        context = ssl.create_default_context()
+        context.check_hostname = False
+        context.verify_mode = ssl.CERT_NONE
+        plain = socket.create_connection((self.host, self.port), timeout=20)
+        secure = context.wrap_socket(plain, server_hostname=self.named.strip("[]") or None)
+        self.certificate = secure.getpeercert(binary_form=True)
+        self.sock = secure
+
+
+def shows_rooms() -> bool:
+    return os.path.lexists(f"{root.ROOT}/etc/nginx/sites-enabled/rooms")
+
+
+def _first_of(file: str) -> bytes:
+    with open(root.ROOT + file, encoding="ascii", errors="replace") as source:
+        _, begin, rest = source.read().partition(_BEGIN)
+    return ssl.PEM_cert_to_DER_cert(begin + rest.partition(_END)[0] + _END)
+
+
+def see_renewal(file: str) -> str:
+    """Whether nginx still has another certificate than the file, which would end unseen. What can't
+    be compared is told by other looks."""
+    if not shows_rooms():
+        return ""
+    try:
+        asked = Named(settings.front(root.ROOT + template.SETTINGS).hosts[0])
+        asked.connect()
+        asked.close()
+        if asked.certificate == _first_of(file):
+            return ""
+    except (OSError, ValueError, Refused):
+        return ""
+    return f"nginx has another certificate than {file}: systemctl reload nginx"
+
+
+def _is_for(file: str, host: str) -> bool:
+    return "does match" in printed(["openssl", "x509", "-in", root.ROOT + file, "-noout",
+                                    "-checkhost", host])
+
+
+def see_names(file: str) -> str:
+    """The name of a room that the certificate isn't for, as after a renewal for another one alone;
+    or of the site, which may have names beside those that browsers get."""
+    try:
+        found = template.gather(root.ROOT)
+    except Refused:
+        return ""
+    lacks = [one.host for one in found.rooms if one.host and not _is_for(file, one.host)]
+    if not any(_is_for(file, one) for one in found.front.hosts):
+        lacks += found.front.hosts[:1]
+    return f"no certificate: {file} isn't for {' and '.join(lacks)}" if lacks else ""

@@ -1,0 +1,113 @@
+"""Settings of a room, or of the site, by their names: each is put in the place of its last line, or
+at the end, and all other lines stay. What the file would say then is looked at first, so nothing
+that a verb would refuse is written. Last it prints what has to be done so that they count."""
+import argparse
+import os
+
+from ..backup import copying
+from ..cli import alike, words
+from ..host import locks
+from ..host.changes import Changes, changes_asked_for
+from ..room import server, settings
+from . import template, values
+from ..cli.report import Refused, say
+
+# Who reads what only when it starts.
+_STARTED = {"FILE": "rooms", "PROGRAM": "rooms", "DRIVE": "rooms-door", "DATES": "rooms-door",
+            "DATES_NAMES": "rooms-door", "LARGEST": "rooms-door", "SEARCH": "rooms-door",
+            "LIMIT": "rooms-full"}
+
+
+def arguments(parser: words.Parser) -> None:
+    parser.forms = ["[--room ROOM | --site] [--dry-run] [--destdir DIR] NAME=VALUE [NAME=VALUE ..]"]
+    words.word(parser, "values", "NAME=VALUE ..", "a setting, and its value, which may be empty")
+    whose = parser.add_mutually_exclusive_group()
+    words.room(whose)
+    words.flag(whose, "--site", "those of the site, in /etc/rooms/site")
+    words.image(parser)
+
+
+def _wanted(given: list[str], path: str, known: dict[str, str]) -> dict[str, str]:
+    found: dict[str, str] = {}
+    for one in given:
+        name, equals, value = one.partition("=")
+        if not equals or "\n" in value:
+            raise Refused(f"bad arguments: '{one}' isn't NAME=VALUE")
+        if name not in known:
+            raise Refused(f"no setting: {path} has no {name}{alike.meant(name, known)}")
+        if name in found:
+            raise Refused(f"bad arguments: {name} stands twice")
+        found[name] = value
+    return found
+
+
+def _file(given: argparse.Namespace, root: str) -> str:
+    """As the machine names it."""
+    if given.site:
+        return template.SETTINGS
+    if "/" in given.room:
+        return str(given.room)
+    path = f"{'/etc/rooms' if root else settings.HOME}/{given.room or 'office'}"
+    return next((path + end for end in (".conf", ".on") if os.path.exists(root + path + end)),
+                path + ".conf")
+
+
+def _need_unit(made: Changes, path: str, unit: str) -> None:
+    """Verbs would stop and start one that isn't there, and the room goes on meanwhile."""
+    if (unit not in ("", f"rooms@{settings.name_of(path)}") and not made.root
+            and os.path.isdir("/run/systemd/system")
+            and server.systemctl("show", "-p", "LoadState", "--value", unit)[1] != "loaded"):
+        raise Refused(f"no unit: systemd has no {unit}")
+
+
+def _tell(root: str, path: str, changed: set[str], kind: type) -> None:
+    """What has them count. Other settings are read by each run. What doesn't fit to those of other
+    rooms, setup would refuse."""
+    name = settings.name_of(path)
+    site = {one.name for one in settings.of_kind(settings.Reached).values()} - {"EARLIER_FROM"}
+    todo = []
+    if kind is not settings.Room or changed & site:
+        todo.append("rooms-admin setup")
+    if kind is settings.Room:
+        units = {unit: None for one, unit in _STARTED.items() if one in changed}
+        todo += [f"systemctl restart {unit}@{name}" for unit in units]
+    if todo:
+        print(f"it counts after: {'; '.join(todo)}")
+    if "rooms-admin setup" in todo:
+        try:
+            template.gather(root)
+        except Refused as why:
+            say(str(why))
+
+
+def run(given: argparse.Namespace) -> int:
+    made = changes_asked_for(given.destdir, given.dry_run)
+    path = _file(given, made.root)
+    kind = settings.kind_of(path)
+    with locks.machine(made.root, made.dry):
+        if not os.path.exists(made.root + path):
+            raise Refused(f"no settings: {path} isn't there")
+        wanted = _wanted(given.values, path, settings.known(kind))
+        text = template.read(made.root + path)
+        settings.look_at(path, values.changed(text, wanted))
+        _need_unit(made, path, wanted.get("UNIT", ""))
+        changed = {name for name, value in wanted.items()
+                   if settings.value(made.root + path, name) != value}
+        values.set_values(made, path, wanted)
+    if not changed:
+        print("nothing to change")
+    elif not made.dry:
+        _tell(made.root, path, changed, kind)
+        if "BACKUPS" in changed and not made.root:
+            _see_backups(path)
+    return 0
+
+
+def _see_backups(path: str) -> None:
+    """The next run would say it, at night."""
+    try:
+        why = copying.hindered(settings.room(path))
+    except Refused as stop:
+        why = str(stop)
+    if why:
+        say(why)

@@ -1,1 +1,0 @@
-"""The verbs of rooms-admin, a module each."""

@@ -1,0 +1,114 @@
+# rooms-admin set: the one way by which settings are written. It needs no room: what it writes is
+# looked at as other verbs do.
+
+if [ ! -x /usr/bin/python3 ]; then
+  skip 'settings' '/usr/bin/python3 is missing'
+  return
+fi
+conf=machine/etc/rooms/office.conf
+mkdir -p machine/etc/rooms
+printf '%s\n' '# a comment' FILE=/var/lib/rooms/office.rooms BACKUPS=/var/backups/rooms KEEP=30 \
+  '# of KEEP' KEEP=7 TITLE=office HOURS=0 >$conf
+printf '%s\n' TITLE=Bills ON=b.example PORT=8443 >machine/etc/rooms/bills.on
+printf '%s\n' HOSTS=rooms.example CERTIFICATE= KEY= >machine/etc/rooms/site
+chmod 640 $conf
+sets() { # WORD ..
+  "$repo/admin/rooms-admin" set --destdir "$PWD/machine" "$@" >"$work/out" 2>"$work/err" </dev/null
+  status=$?
+}
+is() { # NAME FILE LINE ..
+  printf '%s\n' "${@:3}" >wanted
+  same "$1" "machine/etc/rooms/$2" wanted
+}
+first=('# a comment' FILE=/var/lib/rooms/office.rooms BACKUPS=/var/backups/rooms KEEP=30
+  '# of KEEP')
+
+sets KEEP=14
+told 'a setting' 0 'new file /etc/rooms/office.conf, with KEEP=14'
+is 'stands where its last line was' office.conf "${first[@]}" KEEP=14 TITLE=office HOURS=0
+holds 'in a file of the mode that it had' [ "$(stat -c %a $conf)" = 640 ]
+holds 'and is read at the next run' [ "$(grep -c 'counts after' "$work/out")" = 0 ]
+sets KEEP=14
+told 'the same again' 0 'nothing to change'
+sets --dry-run KEEP=3 DRIVE=yes
+told 'what would be done' 0 'would: new file /etc/rooms/office.conf, with KEEP=3, DRIVE=yes'
+is 'is not done' office.conf "${first[@]}" KEEP=14 TITLE=office HOURS=0
+sets DRIVE=yes 'TITLE=Our office = ours' KEEP=14
+told 'several' 0 'with DRIVE=yes, TITLE=Our office = ours' \
+  'it counts after: rooms-admin setup; systemctl restart rooms-door@office'
+is 'of which one is new' office.conf "${first[@]}" KEEP=14 'TITLE=Our office = ours' HOURS=0 \
+  DRIVE=yes
+sets LIMIT=300
+told 'a limit' 0 'it counts after: systemctl restart rooms-full@office'
+sets SEARCH=yes
+told 'a search, which the door has from its start' 0 \
+  'it counts after: rooms-admin setup; systemctl restart rooms-door@office'
+sets LIMIT= DRIVE= SEARCH=no
+told 'none any more' 0 'with LIMIT=, DRIVE='
+cp $conf before
+for wrong in \
+  'no such name;KEP=3;no setting: /etc/rooms/office.conf has no KEP; did you mean KEEP?' \
+  "no value;KEEP;bad arguments: 'KEEP' isn't NAME=VALUE" \
+  "a bad one;KEEP=-1;bad settings: KEEP in /etc/rooms/office.conf isn't a number of nights" \
+  "half of one;KEEP=1 nights 8 weeks;bad settings: KEEP in /etc/rooms/office.conf isn't" \
+  'a quote that goes on;TITLE="x;goes on in the next one for systemd' \
+  'a backslash at the end;TITLE=x\;goes on in the next one for systemd' \
+  'one of two;REVIEW=/audit;REVIEW and REVIEWER in /etc/rooms/office.conf need one another' \
+  'what says nothing any more;DOOR=yes;no setting: /etc/rooms/office.conf has no DOOR'; do
+  IFS=';' read -r name value text <<<"$wrong"
+  sets "$value"
+  told "$name" 2 "$text"
+  same "$name: nothing is changed" $conf before
+done
+sets KEEP=3 KEEP=4
+told 'one twice' 2 'bad arguments: KEEP stands twice'
+sets $'TITLE=x\nPROGRAM=/tmp/x'
+told 'two lines' 2 "isn't NAME=VALUE"
+same 'nothing is changed' $conf before
+sets REVIEW=/audit REVIEWER=alice
+told 'both of two' 0 'with REVIEW=/audit, REVIEWER=alice'
+sets --room bills PASSWORDS=directory
+told 'a room elsewhere' 0 'new file /etc/rooms/bills.on, with PASSWORDS=directory' \
+  'it counts after: rooms-admin setup'
+sets --room bills KEEP=3
+told 'which has other settings' 2 'no setting: /etc/rooms/bills.on has no KEEP'
+sets --room none KEEP=3
+told 'no room' 2 "no settings: /etc/rooms/none.conf isn't there"
+sets --site 'HOSTS=docs.example rooms.example'
+told 'the site' 0 'it counts after: rooms-admin setup'
+is 'has its own' site 'HOSTS=docs.example rooms.example' CERTIFICATE= KEY=
+sets HOST=rooms.example
+told 'a host that is in use' 0 'host in use: HOST in '
+sets HOST=
+told 'and no longer' 0 'it counts after: rooms-admin setup'
+holds 'of which nothing is said' [ ! -s "$work/err" ]
+sets --site CERTIFICATE=/etc/ssl/rooms.pem
+told 'half a pair' 2 'CERTIFICATE and KEY in /etc/rooms/site need one another'
+sets --site --room office KEEP=3
+told 'both' 2 'not allowed with argument'
+holds 'nothing else is left' [ "$(cd machine/etc/rooms && echo *)" = 'bills.on office.conf site' ]
+holds 'nor hidden' [ -z "$(find machine -name '.*')" ]
+
+# Where no backup can come, it is said now, and not at night.
+mkdir place store run
+printf '%s\n' "FILE=$PWD/place/F" "BACKUPS=$PWD/store" "PROGRAM=$rooms" UNIT=rooms >own.conf
+for where in none store; do
+  ROOMS_RUN=$PWD/run "$repo/admin/rooms-admin" set --room "$PWD/own.conf" "BACKUPS=$PWD/$where" \
+    >"$work/out" 2>"$work/err" </dev/null
+  status=$?
+  told "backups in $where" 0 "with BACKUPS=$PWD/$where"
+  [ "$where" = store ] || told 'which is not there' 0 "no folder: $PWD/none, of BACKUPS in "
+done
+holds 'a folder that is there is no news' [ ! -s "$work/err" ]
+
+# Whoever reads the first lines alone ends nothing.
+mkdir -p unread/etc/rooms
+printf '%s\n' FILE=/F BACKUPS=/b KEEP=1 >unread/etc/rooms/office.conf
+{
+  sleep 0.3
+  "$repo/admin/rooms-admin" set --destdir "$PWD/unread" KEEP=2 HOURS=3 </dev/null 2>&1
+  echo "$?" >status
+} | true
+holds 'a change that nobody reads' [ "$(cat status)" = 0 ]
+holds 'is done whole' \
+  [ "$(tail -n 2 unread/etc/rooms/office.conf | tr '\n' ' ')" = 'KEEP=2 HOURS=3 ' ]

@@ -1,0 +1,115 @@
+"""What a deputy's process hands on by sudo, and what root's hands on to those of other users:
+python3 -m unittest test_deputy."""
+import ctypes
+import fcntl
+import os
+import pty
+import resource
+import subprocess
+import sys
+import tempfile
+import time
+import unittest
+
+ADMIN = os.path.join(os.path.dirname(os.path.abspath(__file__)), "..", "..", "admin")
+sys.path.insert(0, ADMIN)
+
+from rooms_admin.host import commands, handed_on, locks, waiting  # noqa: E402
+
+OOM = "/proc/self/oom_score_adj"
+SMALL = {resource.RLIMIT_NOFILE: 60, resource.RLIMIT_FSIZE: 1 << 20, resource.RLIMIT_CPU: 9,
+         resource.RLIMIT_STACK: 1 << 20}
+# The numbers of the system's own headers.
+SET_LATE, LATE = 29, 30
+
+
+def made_theirs() -> None:
+    ctypes.CDLL(None).prctl(SET_LATE, ctypes.c_ulong(10 ** 18))
+    for which, most in SMALL.items():
+        # (A container's root may raise no second one.)
+        resource.setrlimit(which, (most, resource.getrlimit(which)[1]))
+    with open(OOM, "w", encoding="ascii") as score:
+        score.write("900")
+    os.setpriority(os.PRIO_PROCESS, 0, 19)
+    os.sched_setaffinity(0, [min(os.sched_getaffinity(0))])
+
+
+class HandedOn(unittest.TestCase):
+    @unittest.skipUnless(os.geteuid() == 0, "what root alone puts off")
+    def test_nothing_is_left(self) -> None:
+        def looked() -> list[object]:
+            made_theirs()
+            handed_on.put_off()
+            with open(OOM, encoding="ascii") as score:
+                said = score.read().strip()
+            return [ctypes.CDLL(None).prctl(LATE, 0, 0, 0, 0), said,
+                    os.getpriority(os.PRIO_PROCESS, 0),
+                    os.sched_getaffinity(0) == os.sched_getaffinity(1),
+                    *(resource.getrlimit(which)[0] for which in SMALL)]
+        self.assertEqual(waiting.answer(20, looked, "x"),
+                         [50_000, "0", 0, True, 1024, -1, -1, 8 << 20])
+
+    def test_how_a_child_ends_is_known(self) -> None:
+        """Of one that nobody hears of it would be said that it ended well."""
+        text = ("from rooms_admin import __main__; __main__.main(['--words']); "
+                "from rooms_admin.host import commands; print(commands.run(['false']).status)")
+        done = subprocess.run(["env", "--ignore-signal=CHLD", sys.executable, "-c", text],
+                              check=False, stdout=subprocess.PIPE, cwd=ADMIN)
+        self.assertEqual(done.stdout.split()[-1:], [b"1"])
+
+    @unittest.skipUnless(os.geteuid() == 0, "what root alone hands on")
+    def test_another_users_process_has_no_terminal(self) -> None:
+        """Whoever else is that user could type there by it."""
+        child, at = pty.fork()
+        if child == 0:
+            said = []
+            for who in (None, commands.Who(65534, 65534)):
+                with commands.started(["sh", "-c", "exec </dev/tty && echo typed"], lambda: None,
+                                      who, cwd="/") as one:
+                    said.append(one.communicate()[0].decode().strip() or "none")
+            os.write(1, " ".join(said).encode())
+            os._exit(0)
+        self.assertEqual(os.read(at, 100), b"typed none")
+        os.waitpid(child, 0)
+        os.close(at)
+
+
+def asks(folder: str, says: int, user: str, until: int = -1) -> None:
+    """A process that wants the room, says when it has it, and keeps it until it hears something."""
+    if os.fork():
+        return
+    try:
+        if user:
+            os.environ["SUDO_USER"] = user
+        with locks.lock("rooms@office", 30, folder):
+            os.write(says, f"{user or 'night'} ".encode())
+            if until != -1:
+                os.read(until, 1)
+    finally:
+        os._exit(0)
+
+
+class Turns(unittest.TestCase):
+    def test_a_night_comes_before_all_deputies(self) -> None:
+        (said, says), (until, ends) = os.pipe(), os.pipe()
+        with tempfile.TemporaryDirectory() as folder:
+            asks(folder, says, "carol", until)
+            self.assertEqual(os.read(said, 100), b"carol ")
+            for _ in range(9):
+                asks(folder, says, "carol")
+            asks(folder, says, "")
+            with open(f"{folder}/rooms@office.first", "rb") as first:
+                # It waits there, and not for a moment.
+                waits = 0
+                while waits < 5:
+                    time.sleep(0.03)
+                    waits = 0 if locks.taken(first.fileno(), 0) else waits + 1
+                    fcntl.flock(first, fcntl.LOCK_UN)
+            os.write(ends, b"x")
+            for _ in range(11):
+                os.wait()
+        self.assertEqual(os.read(said, 1000).split(), [b"night", *[b"carol"] * 9])
+
+
+if __name__ == "__main__":
+    unittest.main()

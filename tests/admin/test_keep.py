@@ -1,0 +1,93 @@
+"""What KEEP of a room's settings lets go where a clock jumps, and what is known by a copy where a
+backup was put in the room's place meanwhile."""
+import argparse
+import contextlib
+import datetime
+import os
+import sys
+import time
+import unittest
+import unittest.mock
+
+sys.path.insert(0, os.path.join(os.path.dirname(__file__), "..", "..", "admin"))
+
+from test_backups import Folder  # noqa: E402
+from rooms_admin.backup import tidying  # noqa: E402
+from rooms_admin.backup.backups import Backup  # noqa: E402
+from rooms_admin.directory import groups  # noqa: E402
+from rooms_admin.people import known, offered  # noqa: E402
+from rooms_admin.room import published  # noqa: E402
+from rooms_admin.room.keep import Keep  # noqa: E402
+
+KEEP = Keep(14, 8, 12, 5)
+
+
+class Clocks(unittest.TestCase):
+    """Six years of nights before."""
+
+    def setUp(self) -> None:
+        self.left: list[Backup] = []
+        day = datetime.date(2020, 1, 1)
+        while day < datetime.date(2026, 12, 1):
+            self.night(f"{day}.040000")
+            day += datetime.timedelta(1)
+
+    def night(self, name: str) -> tuple[list[Backup], str]:
+        """What goes in it, as far as its clock is believed, and what is told of that."""
+        gone = tidying.beyond(self.left, KEEP, name)
+        ahead = tidying.ahead(self.left, KEEP, name) if gone else ""
+        gone = [] if ahead else gone
+        self.left = [*(one for one in self.left if one not in gone),
+                     Backup(len(self.left) + 1, name, "/b")]
+        return gone, ahead
+
+    def test_one_that_is_ahead_has_nothing_go(self) -> None:
+        """Each night of a later year would take the place of an earlier one."""
+        for year in range(2027, 2033):
+            gone, ahead = self.night(f"{year}-12-01.040000")
+            self.assertEqual(gone, [])
+            self.assertIn(f"the clock says {year}-12-01, and the last backup before is of ", ahead)
+
+    def december(self) -> list[str]:
+        for day in range(1, 29):
+            self.assertEqual(self.night(f"2026-12-{day:02}.040000")[1], "")
+        return [one.name for one in self.left]
+
+    def test_what_it_made_takes_no_place_afterwards(self) -> None:
+        before = list(self.left)
+        wanted = self.december()
+        self.left = before
+        self.night("2031-07-01.040000")
+        self.assertEqual(sorted(self.december()), [*wanted, "2031-07-01.040000"])
+
+    def test_a_week_is_believed(self) -> None:
+        gone, ahead = self.night("2026-12-07.040000")
+        self.assertTrue(gone)
+        self.assertEqual(ahead, "")
+
+    def test_nights_alone_go_by_their_number(self) -> None:
+        self.assertEqual(tidying.ahead(self.left, Keep(30), "2036-01-01.040000"), "")
+        self.assertEqual(tidying.ahead([], KEEP, "2036-01-01.040000"), "")
+
+
+class Restored(Folder):
+    def test_a_night_says_nothing_of_a_file_that_came_meanwhile(self) -> None:
+        """Whoever was a member that night would stay unseen by groups until the next one."""
+        with open(self.room.file, "wb"):
+            if known.which_file(self.room).endswith((" 0", " -")):
+                self.skipTest("no disk that knows when a file came")
+        run = groups.Run(self.room, argparse.Namespace(dry_run=False, force=False),
+                         contextlib.ExitStack())
+        for name, wanted in ((time.strftime("%F.%H%M%S", time.localtime(time.time() + 60)),
+                              {("staff", "alice")}), ("2026-01-01.040000", None)):
+            place = self.backup(name, 7, lists="member staff alice\n")
+            with (unittest.mock.patch.object(published, "FOLDER", f"{self.home}/web"),
+                  unittest.mock.patch.object(offered.locks, "lock",
+                                             lambda *_: contextlib.nullcontext()),
+                  open(f"{place}/lists.txt", "rb") as lists):
+                self.assertEqual(offered.nightly(self.room, lists, place), [])
+                self.assertEqual(run.known(), wanted, name)
+
+
+if __name__ == "__main__":
+    unittest.main()

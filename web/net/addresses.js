@@ -1,0 +1,26 @@
+// Addresses: of what is asked of the room, and of the place that the page shows.
+
+const VIEWS = ['show', 'access', 'rights', 'dacl', 'sacl', 'earlier', 'new'];
+
+// A path is '/' alone, or a '/' before each name. In a target each name is percent-encoded. Targets
+// are relative, so a room is asked below the address at which its page is served.
+export function target(word, path) {
+  return `${word}/${path.split('/').slice(1).map(encodeURIComponent).join('/')}`;
+}
+
+function decoded(name) {
+  try {
+    return decodeURIComponent(name);
+  } catch {
+    return name;
+  }
+}
+
+// {path, view, night}; without a view the folder itself is shown, or a document by the view 'show'.
+// 'night' is the one of the view 'earlier', or null.
+export function whereIs(hash) {
+  const [place, rest = ''] = hash.replace(/^#/, '').split('?');
+  const [view, night = null] = rest.split('=');
+  const names = place.split('/').filter((name) => name !== '').map(decoded);
+  return { path: `/${names.join('/')}`, view: VIEWS.includes(view) ? view : null, night };
+}
