@@ -90,19 +90,21 @@ holds 'whose number is known' grep -q "^group,user after .* ${newest##*/} of " \
 
 # Whoever reads a backup is told, and holds nobody meanwhile.
 kept=$(cksum <room/office.rooms)
-told_of() { # NAME CALL WORD ..
-  local name=$1
-  rm -f hangs.seen
-  echo "$2" >hangs
-  admin "${@:3}" >told 2>&1 &
-  run=$!
-  hung "$name" "$run"
+ends_told() { # NAME
   ends "$run"
   rm hangs
   wait "$run"
   status=$?
-  holds "$name ends: $(tail -n 1 told)" [ "$status" = 1 ]
-  holds "$name: it is told" grep -q "doesn't answer within 20 s: does its disk hang?" told
+  holds "$1 ends: $(tail -n 1 told)" [ "$status" = 1 ]
+  holds "$1: it is told" grep -q "doesn't answer within 20 s: does its disk hang?" told
+}
+told_of() { # NAME CALL WORD ..
+  rm -f hangs.seen
+  echo "$2" >hangs
+  admin "${@:3}" >told 2>&1 &
+  run=$!
+  hung "$1" "$run"
+  ends_told "$1"
 }
 told_of 'a restore' 'READ office.rooms' restore latest
 left="$(ls room) $(cksum <room/office.rooms)"
@@ -155,12 +157,7 @@ for call in MKDIR WRITE RENAME; do
   echo "$call" >hangs
   admin restore --machine "$PWD/machine.tar" >told 2>&1 &
   run=$!
-  ends "$run"
-  rm hangs
-  wait "$run"
-  status=$?
-  holds "$call hangs: a machine isn't brought back: $(tail -n 1 told)" [ "$status" = 1 ]
-  holds "$call hangs: it is told" grep -q "doesn't answer within 20 s: does its disk hang?" told
+  ends_told "a machine that isn't brought back, since $call hangs,"
   cksum <root/etc/rooms/office.conf >after
   same "$call hung: nothing was changed" after before
 done

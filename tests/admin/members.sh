@@ -237,3 +237,17 @@ unit stop
 room_verb user change carol --add staff
 says 'a room that rests' 0 '+ staff,carol'
 unit_rests 'goes on to rest'
+
+# Who has left a group is in it again by a backup that is put in the room's place.
+mkdir backups/then
+cp office/F* backups/then
+as_user "$rooms" dump "$PWD/office/F" >backups/then/lists.txt
+room_verb user change carol --drop clerks
+ended_well 'somebody leaves a group'
+room_verb restore --dry-run "$PWD/backups/then"
+told 'a dry run says who would be back' 0 'would: groups are those of the backup:' '+ clerks,carol'
+room_verb restore "$PWD/backups/then"
+told 'a restore says who is back' 0 'groups are those of the backup:' '+ clerks,carol'
+members_are 'and they are' clerks,carol staff,alice staff,carol
+room_verb who --user craol --backup "$PWD/backups/then"
+says 'a name that nobody has' 0 'nobody is called craol; did you mean carol?'

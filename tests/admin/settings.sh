@@ -43,8 +43,8 @@ told 'a limit' 0 'it counts after: systemctl restart rooms-full@office'
 sets SEARCH=yes
 told 'a search, which the door has from its start' 0 \
   'it counts after: rooms-admin setup; systemctl restart rooms-door@office'
-sets LIMIT= DRIVE= SEARCH=no
-told 'none any more' 0 'with LIMIT=, DRIVE='
+sets LIMIT= DRIVE=no SEARCH=no
+told 'none any more' 0 'with LIMIT=, DRIVE=no, SEARCH=no'
 cp $conf before
 for wrong in \
   'no such name;KEP=3;no setting: /etc/rooms/office.conf has no KEP; did you mean KEEP?' \

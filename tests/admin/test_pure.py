@@ -221,8 +221,8 @@ class Lists(unittest.TestCase):
     def test_each_is_refused_by_its_name(self) -> None:
         bad = {"FILE": "x", "PORT": "0", "BACKUPS": "x", "KEEP": "-1", "MEMORY": "99",
                "LIMIT": "0", "STANDBY": "x", "MAIL": "-x", "REVIEW": "/x/", "REVIEWER": "a b",
-               "UNIT": "-x", "PROGRAM": "x", "PASSWORDS": "none", "HOST": "a b", "BEHIND": "no",
-               "DRIVE": "no", "LARGEST": "0", "DATES": "yes", "DATES_NAMES": "", "GUESTS": "no",
+               "UNIT": "-x", "PROGRAM": "x", "PASSWORDS": "none", "HOST": "a b", "BEHIND": "on",
+               "DRIVE": "on", "LARGEST": "0", "DATES": "yes", "DATES_NAMES": "", "GUESTS": "on",
                "PEOPLE": "all", "OWN_PASSWORDS": "", "SEARCH": "", "SEARCH_SCANS": "121",
                "EARLIER": "yes", "EARLIER_FROM": "2026-11", "HOURS": "1000"}
         self.assertEqual({*bad, "TITLE"}, set(settings.known(settings.Room)))

@@ -261,9 +261,9 @@ class Restore:
             raise Stop(why)
 
 
-def restore_room(conf: str, backup: str, start: bool, starts: bool = False) -> None:
-    """Without a backup it only cleans up after a run that was cut off. What the disk of backups has
-    is here before the room is locked."""
+def restore_room(conf: str, backup: str, start: bool, starts: bool = False) -> str:
+    """The folder of the backup that was taken. Without a backup it only cleans up after a run that
+    was cut off. What the disk of backups has is here before the room is locked."""
     room = settings.room(conf)
     named = f"--room {conf} " if conf else ""
     with locks.lock(room.unit, 0):
@@ -271,9 +271,11 @@ def restore_room(conf: str, backup: str, start: bool, starts: bool = False) -> N
             refuse_while_served(room)
         if not backup or Restore(room, start).stage is not None:
             _restore_locked(room, None, named, start, starts)
-    if backup:
-        with taken_from(room, backups.find(room, backup)) as taken, locks.lock(room.unit, 60):
-            _restore_locked(room, taken, named, start, starts)
+    if not backup:
+        return ""
+    with taken_from(room, backups.find(room, backup)) as taken, locks.lock(room.unit, 60):
+        _restore_locked(room, taken, named, start, starts)
+    return taken.place
 
 
 def _restore_locked(room: Room, taken: Taken | None, named: str, start: bool, starts: bool) -> None:
@@ -313,7 +315,7 @@ def _tell_nothing(room: Room, named: str) -> None:
          if kept else ""))
 
 
-def would_restore(conf: str, backup: str, start: bool) -> None:
+def would_restore(conf: str, backup: str, start: bool) -> str:
     """The backup is verified as it would be; nothing is stopped, and nothing changes."""
     room = settings.room(conf)
     found = backups.find(room, backup)
@@ -322,3 +324,4 @@ def would_restore(conf: str, backup: str, start: bool) -> None:
     print(f"would: restored {room.file} from {found}")
     if start:
         print(f"would: {room.unit} is stopped for a moment, and started")
+    return found

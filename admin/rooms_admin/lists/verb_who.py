@@ -17,11 +17,13 @@ objects with the names 'path' and 'entry'."""
 import argparse
 from collections.abc import Iterable
 
-from ..cli import report, words
+from ..cli import alike, report, words
+from ..passwords import passwords
 from ..backup import texts
 from . import asked, callers, dump, review
-from ..cli.report import Refused
-from .review import Row
+from ..cli.report import Refused, say
+from ..room.settings import Room
+from .review import Place, Row
 
 
 def arguments(parser: words.Parser) -> None:
@@ -35,9 +37,19 @@ def arguments(parser: words.Parser) -> None:
     asked.arguments(parser)
 
 
-def _rows(given: argparse.Namespace, lines: Iterable[str], path: str) -> list[Row]:
+def _tell_unknown(room: Room, place: Place, name: str) -> None:
+    """One that nobody has is most often another one, mistyped. Users whom a directory or sessions
+    let in are known there alone."""
+    has = (set(place.at[0]) - set(callers.CALLED)).union(
+        *map(passwords.users, passwords.password_files(room.name)))
+    if room.passwords == "file" and name not in has:
+        say(f"nobody is called {name}{alike.meant(name, has)}")
+
+
+def _rows(given: argparse.Namespace, room: Room, lines: Iterable[str], path: str) -> list[Row]:
     place = review.seen_at(review.rows(lines), path, given.below or bool(given.user))
     if given.user:
+        _tell_unknown(room, place, given.user)
         return callers.of_user(place, path, given.user)
     if given.change:
         return list(callers.changing(place, path))
@@ -52,7 +64,7 @@ def run(given: argparse.Namespace) -> int:
         asked.name(given.user)
     room, folder = asked.backup(given)
     with texts.beside(room, folder, texts.REVIEW) as source:
-        rows = _rows(given, texts.of_csv(source), callers.decoded(here))
+        rows = _rows(given, room, texts.of_csv(source), callers.decoded(here))
     wanted = {callers.encoded(it) for row in rows for it in (row.path, review.above(row.path))}
     with texts.beside(room, folder, texts.LISTS) as source:
         known = callers.known_of(dump.whole(source, texts.LISTS), {here, *wanted})

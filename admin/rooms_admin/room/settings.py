@@ -109,7 +109,7 @@ def setting(name: str, form: _Form = lambda _: True, what: str = "", default: st
 
 
 def yes(name: str) -> Any:
-    return setting(name, r"(yes)?", "yes, or empty", reads=lambda text: text == "yes")
+    return setting(name, r"(yes|no)?", "yes, no or empty", reads=lambda text: text == "yes")
 
 
 def of_kind(kind: type) -> dict[str, Setting]:

@@ -38,7 +38,7 @@ def _given() -> argparse.Namespace:
     words.add_argument("--kept", default="", help="a folder for what outlasts it, such as locks; "
                        "that of its socket without it")
     words.add_argument("--would", default="", help="the socket at which rooms would is asked")
-    words.add_argument("--drive", choices=("yes", ""), default="",
+    words.add_argument("--drive", choices=("yes", "no", ""), default="",
                        help="yes: documents are edited in place, by WebDAV below /drive/")
     words.add_argument("--full", default="",
                        help="a file that is there while the room takes nothing more")
