@@ -128,7 +128,8 @@ does 'all rules are dropped' 'nft flush ruleset'
 until_inside 'it is there again' "$table"
 does 'rules by their service' 'systemctl restart nftables'
 until_inside 'it is there again' "$table"
-does 'what keeps it is killed' 'systemctl kill -s KILL rooms-connections; nft flush ruleset'
+does 'what keeps it is killed' \
+  'systemctl kill --kill-whom=main -s KILL rooms-connections; nft flush ruleset'
 until_inside 'it comes back' "$table"
 does 'it stops' 'systemctl stop rooms-connections; ! nft list table inet rooms_connections'
 does 'setup has it back, as after a removal that was cut off' "rooms-admin setup && $table"

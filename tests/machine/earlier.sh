@@ -67,7 +67,7 @@ holds "no more than 96 tasks, 1,536 MB, four nights: $told" awk '{
 until_inside 'and it goes on' "[ \"\$($web $bob $at/earlier/$night/doc/letter)\" = 200 ]"
 # Each is killed, and comes again.
 for unit in earlier nights; do
-  does "rooms-$unit is killed" "systemctl kill -s KILL rooms-$unit.service"
+  does "rooms-$unit is killed" "systemctl kill --kill-whom=main -s KILL rooms-$unit.service"
   until_inside 'and comes again' "[ \"\$($web $bob $at/earlier/$night/doc/letter)\" = 200 ]"
 done
 # One that can't start is tried again and again, and not as fast as it fails.

@@ -48,7 +48,7 @@ nobody_is_lost 'a door' 'for n in 1 2 3; do systemctl restart rooms-door@office;
 # An upgrade starts the door anew as well.
 nobody_is_lost 'an upgrade' "dpkg -i rooms.deb && systemctl restart 'rooms@*'"
 # One that is killed takes with it whom it had accepted, and nothing is sent again.
-asked_while 'a kill' 'systemctl kill -s KILL rooms@office'
+asked_while 'a kill' 'systemctl kill --kill-whom=main -s KILL rooms@office'
 holds "a kill: $(cat numbers)" grep -Eq '^[0-9]{2,} asked, [0-9]{1,3} lost, 0 twice, 0 missing, ' \
   numbers
 until_inside 'the room is back' "[ \"\$($web/can/?)\" = 200 ]"

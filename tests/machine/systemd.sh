@@ -97,7 +97,7 @@ END
 until_inside 'which it takes' '[ "$(python3 /usr/local/lib/last_list.py)" = \
   "$(sed -n "1s/ .*//p" /var/lib/rooms-told/office.night)" ]'
 does 'the document goes' 'curl -s -u alice:a -X DELETE http://127.0.0.1/object/dated'
-does 'it is killed' 'systemctl kill -s KILL rooms-door@office'
+does 'it is killed' 'systemctl kill --kill-whom=main -s KILL rooms-door@office'
 until_inside 'and comes back' \
   'curl -sf -o /dev/null -u alice:a http://127.0.0.1/door/find/?x'
 does 'it is stopped' 'systemctl stop rooms-door@office'
@@ -184,7 +184,7 @@ dropped() { # NAME TEXT
 }
 dropped 'rules loaded by hand' 'nft -f /etc/nftables.conf'
 dropped 'what keeps it is killed' \
-  'systemctl kill -s KILL rooms-firewall; nft -f /etc/nftables.conf'
+  'systemctl kill --kill-whom=main -s KILL rooms-firewall; nft -f /etc/nftables.conf'
 does 'nothing keeps it' 'systemctl stop rooms-firewall && nft delete table inet rooms'
 gets_to_port 'who gets to the port then'
 does 'the room is started again' 'systemctl restart rooms@office; systemctl reset-failed'
@@ -406,7 +406,7 @@ does 'uploads' 'head -c 1000000 /dev/zero >big; for n in 1 2 3; do
 until_inside 'a flag' '[ -e /run/rooms-full/office.full ]'
 answer_is 'what adds' 507 "$web -X PUT -d hello http://127.0.0.1/doc/more"
 answer_is 'what reads' 200 "$web http://127.0.0.1/doc/f"
-does 'the watch is killed' 'systemctl kill -s KILL rooms-full@office'
+does 'the watch is killed' 'systemctl kill --kill-whom=main -s KILL rooms-full@office'
 until_inside 'and started again' \
   '[ "$(systemctl show rooms-full@office -p NRestarts --value)" -ge 1 ] &&
   systemctl is-active -q rooms-full@office'
