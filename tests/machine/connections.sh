@@ -80,6 +80,26 @@ holds "they last: $(head -c 200 said)" kill -0 "$flood"
 wait "$flood"
 does 'root gets in meanwhile' 'curl -s -o /dev/null -u alice:a http://127.0.0.1/can/?'
 
+# Where the kernel counts connections, it has a table of all that the machine sends and gets. Where
+# that is full, it takes no connection of anybody's.
+cat >"$machine/usr/local/lib/fills.py" <<'END'
+import contextlib
+import socket
+import struct
+
+# (IP_PKTINFO is 8.)
+at = socket.socket(socket.AF_INET, socket.SOCK_DGRAM)
+for number in range(30000):
+    source = struct.pack("=i4sxxxx", 0, bytes([127, 1, number >> 8, number & 255]))
+    with contextlib.suppress(OSError):
+        at.sendmsg([b"x"], [(socket.IPPROTO_IP, 8, source)], 0, ("127.0.0.1", 9))
+END
+does 'an account sends to as many as it likes' 'at=/proc/sys/net/netfilter/nf_conntrack_count
+  before=$(cat $at); setpriv --reuid=nobody --regid=nogroup --clear-groups \
+    python3 -I /usr/local/lib/fills.py; echo $(($(cat $at) - before))'
+holds "the table has few of them: $(cat "$work/out")" [ "$(cat "$work/out")" -lt 5000 ]
+holds 'and was asked for them' [ "$(cat "$work/out")" -gt 1000 ]
+
 # As many as the table says, of browsers that stay connected; the next one waits until one ends.
 does 'how many one address may have' \
   'sed -n "s/.* ip saddr ct count over \([0-9]*\) } drop/\1/p" /var/lib/rooms-front/connections.nft'
