@@ -91,6 +91,9 @@ for page in "$top"/{,web/,admin/,deploy/,tests/}README.md "$top"/{CONTRIBUTING,C
 done
 
 holds 'README names the command of all tests' grep -qxF .ci/run "$top/README.md"
+# What runs as a user of rooms has a terminal of its own: at root's it could type.
+grep -n runuser "$top"/{README,docs/*}.md | grep -v 'runuser --pty -u rooms -- ' >found
+none 'commands at the terminal of root' found
 
 # The same of the pages as they are installed, without whatever else is in the repository.
 "$repo/deploy/install" --destdir "$PWD/machine" --program "$rooms" >installed 2>&1 </dev/null

@@ -262,11 +262,15 @@ furnish_machine() {
   printf '%s\n' '#!/bin/sh' '[ "$1" = -B ] || exec /usr/bin/htpasswd "$@"' \
     'exec /usr/bin/htpasswd -bB "$2" "$3" typed' >"$machine/usr/local/bin/htpasswd"
   printf '#!/bin/sh\nexit 101\n' >"$machine/usr/sbin/policy-rc.d"
-  # There is no /dev/pts, and no way out.
+  # There is no way out.
   printf '%s\n' 'Dpkg::Use-Pty "0";' 'quiet "2";' 'APT::Sandbox::User "root";' \
     'DPkg::Path "/usr/local/sbin:/usr/local/bin:/usr/sbin:/usr/bin:/sbin:/bin";' \
     >"$machine/etc/apt/apt.conf.d/99rooms"
   chmod 755 "$machine"/usr/local/bin/{systemctl,htpasswd} "$machine/usr/sbin/policy-rc.d"
   mkdir -p "$machine/run/systemd/system" "$machine/root"
   nsenter -t "$first" -m -p mount -t proc proc "$machine/proc"
+  # Where 'runuser --pty' makes a terminal.
+  mkdir -p "$machine/dev/pts"
+  nsenter -t "$first" -m mount -t devpts -o newinstance,ptmxmode=0666 devpts "$machine/dev/pts"
+  ln -sf pts/ptmx "$machine/dev/ptmx"
 }

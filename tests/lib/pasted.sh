@@ -51,7 +51,7 @@ mkdir -p bin room backups/office run/rooms/rooms
 sock=$PWD/run/rooms/rooms/socket
 ln -s "$rooms" bin/rooms
 stand_in runuser <<'END'
-[ "$1 $2 $3" = '-u rooms --' ] && shift 3 && exec "$@"
+[ "$1 $2 $3 $4" = '--pty -u rooms --' ] && shift 4 && exec "$@"
 END
 stand_in apt-get <<'END'
 END

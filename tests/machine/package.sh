@@ -50,7 +50,7 @@ does 'the user has the folder of rooms' 'stat -c "%U %a" /var/lib/rooms /var/bac
   cd /etc/nginx/sites-enabled && readlink rooms && ls'
 prints 'and so on' 'rooms 700' 'root 700' ../sites-available/rooms rooms
 does 'the three commands' "$(block README.md 'runuser')"
-holds 'the room is made' grep -q '^ready$' "$work/out"
+holds 'the room is made' grep -q '^ready' "$work/out"
 does 'a folder' \
   "$(block docs/operating.md 'rooms.example:80' | sed 's/-u alice/-s -u alice:typed/')"
 prints 'is made through nginx' 201

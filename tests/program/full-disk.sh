@@ -25,8 +25,8 @@ verified() {
   local block
   block=$(awk '/^```/ { inside = !inside; next } inside && /rooms verify/' \
     "$here/../docs/messages.md" | sort -u)
-  holds 'the page has the block' \
-    [ "$block" = 'runuser -u rooms -- rooms verify /var/lib/rooms/office.rooms' ]
+  holds 'the page has the block' [ "$block" = \
+    'runuser --pty -u rooms -- rooms verify /var/lib/rooms/office.rooms </dev/null' ]
   gives 'it is sound' 0 'sound\n' '' verify small/F
 }
 

@@ -59,7 +59,7 @@ def _end(made: Changes, good: bool) -> int:
     _tell_disabled(made)
     if not made.dry and not made.root and not os.path.exists("/var/lib/rooms/office.rooms"):
         print("""What is left (docs/operating.md), with your own names for alice and staff:
-  runuser -u rooms -- rooms init /var/lib/rooms/office.rooms alice staff
+  runuser --pty -u rooms -- rooms init /var/lib/rooms/office.rooms alice staff </dev/null
   systemctl enable --now rooms@office rooms-nightly@office.timer
   rooms-admin user add alice""")
     apply.tell(made)
