@@ -69,6 +69,7 @@ def main():
                  "/var/lib/rooms-told", "/var/lib/rooms-changes", "/var/lib/rooms-changes/office",
                  "/var/lib/rooms-changes/invoices", "/var/cache/rooms-texts/office"):
         tries(f"write {path}", lambda path=path: writes(f"{path}/probe"))
+    tries("make a folder", lambda: os.mkdir("/var/tmp/folder"))
     # Where nginx opens what somebody else may put there.
     link = "/var/lib/rooms-changes/office/link"
     tries("have nginx write elsewhere", lambda: os.symlink("/var/log/nginx/access.log", link))
