@@ -244,6 +244,9 @@ touch -d '2 hours ago' "root/var/lib/systemd/timers/stamp-$timer"
 checks 'groups of tonight' 0 'groups 2 h ago'
 touch -d '30 hours ago' "root/var/lib/systemd/timers/stamp-$timer"
 checks 'groups of another night' 1 'groups 30 h ago'
+touch -d '30 hours' "root/var/lib/systemd/timers/stamp-$timer"
+checks 'groups of a clock that was ahead' 1 \
+  "$timer has never run since the clock was set back: systemctl restart $timer"
 rm "root/etc/systemd/system/timers.target.wants/$timer"
 
 # How many may be connected, as nginx's own file says it; without a line nginx has 512.

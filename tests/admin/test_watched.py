@@ -14,6 +14,7 @@ from collections.abc import Iterator
 
 sys.path.insert(0, os.path.join(os.path.dirname(__file__), "..", "..", "admin"))
 
+from rooms_admin.backup import dates, for_search  # noqa: E402
 from rooms_admin.host import locks, mail, root  # noqa: E402
 from rooms_admin.room import health, server, settings  # noqa: E402
 from rooms_admin.check import finding, front, verb_tell, watched  # noqa: E402
@@ -141,6 +142,31 @@ class Watched(unittest.TestCase):
                 (0, f"no earlier nights, since BACKUPS is below {told}")] if told else [])
         room.earlier = "no"
         self.assertEqual(watched.see_nights(room), [])
+
+    def test_texts_that_nobody_searches(self) -> None:
+        """After a restore, and of a clock that was ahead, none are searched until the next
+        night."""
+        room = settings.Room(conf="/etc/rooms/office.conf", file="/f/F", port="8780", owner=0,
+                             group=0, backups="/b", unit="rooms@office", program="/bin/true",
+                             search=True)
+        none = (1, "no texts are searched yet: systemctl start rooms-nightly@office")
+        now = time.time()
+        with tempfile.TemporaryDirectory() as home, \
+                unittest.mock.patch.object(dates, "FOLDER", home), \
+                unittest.mock.patch.object(for_search, "PLACE", home), \
+                unittest.mock.patch.object(for_search, "ROOT", ""), \
+                unittest.mock.patch.object(watched.shutil, "which", return_value="/bin/true"):
+            self.assertEqual(watched.see_search(room), [none])
+            os.makedirs(f"{home}/office/night.{int(now - 7200) * 1000}")
+            self.assertEqual(watched.see_search(room), [])
+            for ago, found in ((7300, []), (3600, [none])):
+                with open(f"{home}/office.words", "w", encoding="ascii") as words:
+                    words.write(f'{{"number": 1, "at": {int(now - ago) * 1000}, "restored": 0}}\n'
+                                f'{{"number": 2, "at": {int(now) * 1000}, "forget": "eve"}}\n')
+                self.assertEqual(watched.see_search(room), found)
+            os.unlink(f"{home}/office.words")
+            os.makedirs(f"{home}/office/night.{int(now + 7200) * 1000}")
+            self.assertEqual(watched.see_search(room), [none])
 
     def test_a_server_that_groups_have_left(self) -> None:
         """Its check says what starts it."""

@@ -181,7 +181,8 @@ class Nights(Dated):
                  line("eve", "DELETE", "/object/f/m", 204, at=NOW + 62),
                  line("eve", "POST", "/move/f/e", 204, 9, '{"to":"/f/m"}', at=NOW + 63))
         self.rows()
-        self.write(self.list_of(*both, made=NIGHT + 100_000))
+        # (root looks at the backup before it is in the room's place)
+        self.write(self.list_of(*both, made=NIGHT + 80_000))
         self.tell({"number": 1, "at": NIGHT + 90_000, "restored": NIGHT})
         self.keeper.catch_up()
         self.keeper.take_night()
@@ -198,7 +199,7 @@ class Nights(Dated):
         self.rows()
         then = NIGHT - 86_400_000
         self.write(self.list_of((*F, then), (*A, then), (*B, then), (5, 2, "g", None, None),
-                                (6, 5, "c", 3, "33", NIGHT + 1), made=NIGHT + 100_000))
+                                (6, 5, "c", 3, "33", NIGHT + 1), made=NIGHT + 80_000))
         self.tell({"number": 1, "at": NIGHT + 90_000, "restored": NIGHT})
         self.keeper.catch_up()
         self.keeper.take_night()
@@ -207,6 +208,17 @@ class Nights(Dated):
         self.assertEqual(self.rows("")["f"], {"when": then // 1000})
         # (no moment is later than the backup)
         self.assertEqual(self.rows("f/g")["c"], {"size": 3, "before": NIGHT // 1000})
+
+    def test_a_restore_within_a_night(self) -> None:
+        """The copy of that night is of another room, though root looks at it after the restore."""
+        self.add(line("bob", "PUT", "/doc/f/a", 204, 3))
+        self.rows()
+        self.tell({"number": 1, "at": NIGHT + 60_000, "restored": NIGHT - 500_000})
+        self.keeper.catch_up()
+        later = (3, 2, "a", 99, "77")
+        self.assertEqual(self.night(F, later, made=NIGHT + 120_000)["a"],
+                         {"before": NIGHT // 1000 - 500})
+        self.assertEqual(self.night(F, A, at=NIGHT + 61_000)["a"]["size"], 3)
 
     def copied(self, *names: str, since: float = 1e12) -> list[int | None]:
         self.keeper.catch_up()

@@ -111,6 +111,12 @@ def _add_word(room: Room, reader: int, what: str, value: object) -> None:
         safe.put_file(own, data, 0o600)
 
 
+def restored(room: Room) -> float:
+    """When a backup was put into the room's place last, in seconds, as far as its door was told."""
+    return max((int(str(one["at"])) / 1000 for one in _words(f"{FOLDER}/{room.name}.words")
+                if "restored" in one), default=0.0)
+
+
 def tell_changed(room: Room, path: bytes) -> None:
     """What is at and below that path, which no line tells of."""
     tell(room, "changed", path.decode("utf-8", "surrogateescape").strip("/"))
@@ -177,10 +183,10 @@ def _is_of_night(backup: str) -> bool:
         os.path.join(backup, backups.RUN)), backup) is True
 
 
-def _write_list(room: Room, reader: int, copied: str, at: int, megabytes: int,
+def _write_list(room: Room, fresh: str, reader: int, copied: str, at: int, megabytes: int,
                 known: bytes = b"") -> None:
-    _remove_fresh(room)
-    with safe.opened(os.open(_fresh(room), os.O_RDWR | os.O_CREAT | os.O_EXCL | os.O_CLOEXEC,
+    _remove(fresh)
+    with safe.opened(os.open(fresh, os.O_RDWR | os.O_CREAT | os.O_EXCL | os.O_CLOEXEC,
                              0o600)) as into:
         status, _, said = program.helper_on_copy(
             room, copied, [sys.executable, "-IB", _LIST], [str(at), *(["-"] if known else [])],
@@ -192,13 +198,9 @@ def _write_list(room: Room, reader: int, copied: str, at: int, megabytes: int,
         os.fsync(into)
 
 
-def _fresh(room: Room) -> str:
-    return f"{FOLDER}/{room.name}.new"
-
-
-def _remove_fresh(room: Room) -> None:
+def _remove(fresh: str) -> None:
     with contextlib.suppress(OSError):
-        os.unlink(_fresh(room))
+        os.unlink(fresh)
 
 
 class Night:
@@ -207,6 +209,8 @@ class Night:
     def __init__(self, room: Room) -> None:
         self.room = room
         self.has_list = False
+        # A restore meanwhile has another one.
+        self.fresh = f"{FOLDER}/{room.name}.new"
 
     def look(self, copied: str, at: int, megabytes: int) -> str:
         """Returns what hindered that."""
@@ -214,7 +218,7 @@ class Night:
         if reader is None:
             return ""
         try:
-            _write_list(self.room, reader, copied, at, megabytes)
+            _write_list(self.room, self.fresh, reader, copied, at, megabytes)
             self.has_list = True
             return ""
         except OSError as fault:
@@ -222,16 +226,16 @@ class Night:
 
     def tell(self) -> None:
         """What is made beside it is there by now."""
-        _put_list(self.room, self.has_list)
+        _put_list(self.room, self.fresh, self.has_list)
 
     def end(self) -> None:
-        _remove_fresh(self.room)
+        _remove(self.fresh)
 
 
-def _put_list(room: Room, has_list: bool) -> None:
+def _put_list(room: Room, fresh: str, has_list: bool) -> None:
     if has_list:
         with contextlib.suppress(OSError):
-            os.rename(_fresh(room), f"{FOLDER}/{room.name}.night")
+            os.rename(fresh, f"{FOLDER}/{room.name}.night")
 
 
 class Restored:
@@ -240,6 +244,7 @@ class Restored:
     def __init__(self, room: Room, backup: str) -> None:
         self.room = room
         self.has_list = False
+        self.fresh = f"{FOLDER}/{room.name}.restored"
         # Before it all was as the backup has it, by the name that a nightly run gave it.
         found = backups.moments(os.path.basename(backup))
         self.at = min(found) * 1000 if found and _is_of_night(backup) else 0
@@ -251,7 +256,7 @@ class Restored:
         if reader is None:
             return
         try:
-            _write_list(self.room, reader, copied, self.at or now(),
+            _write_list(self.room, self.fresh, reader, copied, self.at or now(),
                         program.enough(self.room, copied), self.known)
             self.has_list = True
         except OSError as fault:
@@ -261,7 +266,7 @@ class Restored:
     def tell(self) -> None:
         """It is in the room's place."""
         tell(self.room, "restored", self.at)
-        _put_list(self.room, self.has_list)
+        _put_list(self.room, self.fresh, self.has_list)
 
     def end(self) -> None:
-        _remove_fresh(self.room)
+        _remove(self.fresh)

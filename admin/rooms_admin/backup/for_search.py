@@ -6,7 +6,6 @@ import json
 import os
 import pwd
 import re
-import time
 
 from ..host import safe
 from ..host.changes import Changes
@@ -76,12 +75,6 @@ def last(room: Room) -> float | None:
         return None
     return max((int(one[1]) / 1000 for name in found if (one := _NIGHT.fullmatch(name))),
                default=None)
-
-
-def age(room: Room) -> float | None:
-    """In seconds."""
-    there = last(room)
-    return None if there is None else time.time() - there
 
 
 def tidy(made: Changes, kept: set[str]) -> None:

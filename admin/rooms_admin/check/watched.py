@@ -211,10 +211,11 @@ def see_search(room: Room) -> list[Finding]:
     if room.scans and not shutil.which("tesseract"):
         found.append((WARNING, "no tesseract, so no scan is read: apt-get install tesseract-ocr "
                       "tesseract-ocr-deu"))
-    age = for_search.age(room)
-    if age is None:
+    last = for_search.last(room)
+    # After a restore nobody knows what a text of before belongs to, nor of a clock that was ahead.
+    if last is None or not dates.restored(room) < last < time.time() + AHEAD:
         found.append((WARNING, f"no texts are searched yet: systemctl start {room.nightly}"))
-    elif age > 50 * HOUR:
+    elif (age := time.time() - last) > 50 * HOUR:
         found.append((WARNING, f"the texts that are searched are {age / HOUR:.0f} hours old: "
                       f"journalctl -u {for_search.unit(room.name)}"))
     return found
@@ -260,6 +261,10 @@ def see_groups(room: Room) -> list[Finding]:
     except OSError:
         return [(WARNING, f"{timer} has never run")]
     age = int(time.time() - stamp) // HOUR
+    if age < 0:
+        # systemd would wait for that time.
+        return [(WARNING, f"{timer} has never run since the clock was set back: systemctl restart "
+                 f"{timer}")]
     return [(WARNING if age >= 26 else OK, f"groups {age} h ago")]
 
 

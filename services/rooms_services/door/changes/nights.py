@@ -20,7 +20,8 @@ from ...room.paths import LONGEST_NAME, names_in
 from ...room.room import USER
 from .store import ROOT, OfCopy, Store, ahead
 
-NIGHT, WORDS, RESTORED = "night", "words", "restored"
+# `BACK` is the moment of the backup that was put back last.
+NIGHT, WORDS, RESTORED, BACK = "night", "words", "restored", "back"
 # Looked at in one go, while nobody is answered.
 PART = 1000
 # Of a line, of all words, and of a document, in bytes.
@@ -126,12 +127,16 @@ class Night:
 
 
 def night_of(place: str, store: Store) -> Night | None:
-    """The list, if it wasn't taken yet. One that was made before a restore is of another room."""
+    """The list, if it wasn't taken yet. One of a copy that was made before a restore is of another
+    room; that of the restore itself is made before root says that it is done, and has its moment
+    of the backup."""
     try:
         night = Night(place)
     except FileNotFoundError:
         return None
-    if night.mark == store.told(NIGHT) or night.made < restored(store):
+    is_of_before = (min(night.at, night.made) < restored(store)
+                    and night.at != int(store.told(BACK) or 0))
+    if night.mark == store.told(NIGHT) or is_of_before:
         night.close()
         return None
     return night
@@ -176,5 +181,6 @@ def _take_word(store: Store, at: int, word: dict[str, object]) -> None:
             store.doubt(at, found)
     elif "restored" in word:
         store.go_back(int(str(word["restored"])))
+        store.keep_told(BACK, str(int(str(word["restored"]))))
         store.keep_told(RESTORED, str(at))
         store.note_gap(at)
