@@ -111,6 +111,21 @@ for place in . ..; do
   refused "a disk that isn't mounted at backups/$place" 'not mounted: '
   holds 'nothing is written there' [ "$(backups)" = "$before" ]
 done
+# What lies below the mount point is from before the disk came: it is no latest backup.
+mv root/etc/fstab table
+night
+holds 'a backup before the disk' [ "$status" = 0 ]
+mv table root/etc/fstab
+for asked in latest 'restore --dry-run latest' "restore --dry-run $(newest)" 'get latest /f' \
+  'export --backup latest / out' 'lists /f'; do
+  # shellcheck disable=SC2086
+  verb ${asked%% *} --room "$PWD/conf" ${asked#"${asked%% *}"}
+  says "$asked" 2 'not mounted: '
+done
+verb restore --dry-run --room "$PWD/conf" "$PWD/backups/conf/$(newest)"
+says 'by its path it can be had' 0 'would: restored'
+verb backups --room "$PWD/conf"
+says 'which there are' 1 'not mounted: '
 mkdir 'a disk' 'a disk/rooms'
 setting BACKUPS "$PWD/a disk/rooms"
 echo "LABEL=none $PWD/a\\040disk ext4 nofail 0 2" >root/etc/fstab

@@ -188,3 +188,27 @@ if [ "$(id -u)" = 0 ]; then
   says 'a name that is no text' 1 "it lacks 'etc/rooms/no"
   rm root/etc/rooms/$'tab\tname' "root/etc/rooms/$odd"
 fi
+
+# A disk that loses what it took, as a stick does that has less than it says: what is verified is
+# what it has, and not what the memory has of it.
+if has mkfs.ext4 && truncate -s 30M lossy.img && mkfs.ext4 -q -F lossy.img && mkdir lossy &&
+  mount -o loop lossy.img lossy 2>/dev/null; then
+  setting BACKUPS "$PWD/lossy"
+  cat >"$stand/at-mkdir" <<END
+# Once the copy is there.
+[ -n "\$(ls "$PWD"/lossy/conf/*.part/F)" ] || exec cp "$stand/hook" "$stand/at-mkdir"
+/usr/bin/python3 -c 'import re, sys
+with open(sys.argv[1], "r+b") as disk:
+    for found in list(re.finditer(b"SQLite format 3\\0", disk.read())):
+        disk.seek(found.start())
+        disk.write(bytes(4096))' "$PWD/lossy.img"
+END
+  night
+  says 'a disk that loses what it took' 1 'verify of the copy failed'
+  holds 'it was lost meanwhile' is_missing "$stand/at-mkdir"
+  holds 'and it is no backup' [ -z "$(ls -d lossy/conf/20* | grep -v unsound)" ]
+  umount lossy
+  setting BACKUPS "$PWD/backups"
+else
+  skip 'a disk that loses what it took' 'no mkfs.ext4, or no leave to mount'
+fi

@@ -86,6 +86,36 @@ def folder(room: Room) -> str:
     return below(room.backups, room.name)
 
 
+def _mount_points() -> list[str]:
+    found = []
+    try:
+        with open(os.environ.get("ROOMS_ROOT", "") + "/etc/fstab", encoding="utf-8",
+                  errors="surrogateescape") as table:
+            for line in table:
+                words = line.split()
+                if len(words) > 1 and not line.startswith("#") and words[1].startswith("/"):
+                    found.append(words[1].replace("\\040", " "))
+    except OSError:
+        pass
+    return found
+
+
+def unmounted(backups: str) -> str:
+    """The mount point of a disk that isn't mounted is an ordinary folder: nothing is written there,
+    and what lies there is from before the disk came. What is told of it, if it is so."""
+    resolved = os.path.realpath(backups) + "/"
+    for place in _mount_points():
+        if resolved.startswith(place.rstrip("/") + "/") and not os.path.ismount(place):
+            return (f"not mounted: {place}, which /etc/fstab has, so {backups}, of BACKUPS, isn't "
+                    "on its disk")
+    return ""
+
+
+def need_disk(backups: str) -> None:
+    if why := waiting.answer(waiting.PATIENCE, lambda: unmounted(backups), backups):
+        raise Refused(str(why))
+
+
 def make_folder(room: Room) -> str:
     """The room's own one, for root alone."""
     place = folder(room)
@@ -164,7 +194,10 @@ def _look_at(above: str, name: str, file: str, found: Found) -> None:
 
 def dated(backups: str, name: str, file: str) -> Found:
     """Those of the room of this name that have this file, below BACKUPS of its settings."""
-    return _in(dict.fromkeys((backups.rstrip("/") or "/", below(backups, name))), file)
+    found = _in(dict.fromkeys((backups.rstrip("/") or "/", below(backups, name))), file)
+    if why := unmounted(backups):
+        found.wrong.append(why)
+    return found
 
 
 def _in(folders: Iterable[str], file: str) -> Found:
@@ -241,6 +274,8 @@ def with_file(backups: str, name: str, file: str) -> list[Backup]:
 
 def newest(room: Room, name: str) -> str:
     """The file of this name of the newest backup that has one; nothing if none has."""
+    need_disk(room.backups)
+
     def asked() -> object:
         with_one = [one.place for one in look(room).backups
                     if os.path.isfile(os.path.join(one.place, name))]
@@ -250,6 +285,8 @@ def newest(room: Room, name: str) -> str:
 
 def find(room: Room, backup: str) -> str:
     """The folder of a backup, by the word that names it: a path has a slash in it."""
+    if "/" not in backup:
+        need_disk(room.backups)
     if backup == "latest":
         found = known(room)
         # What doesn't count may be newer than the one that is taken.

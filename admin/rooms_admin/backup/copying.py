@@ -16,6 +16,7 @@ from dataclasses import dataclass, field
 
 from ..host import processes, safe, waiting
 from ..room import server, waits
+from . import backups
 from ..cli.report import Interrupted, Refused, Stop, say
 from ..room.held import NotHeld, held
 from ..room.settings import Room
@@ -329,16 +330,22 @@ def keep(room: Room, copied: Copy, part: str) -> None:
         copied.close()
 
 
+def forget(room: Room, part: str) -> None:
+    """What is read of it next comes from its disk, which may have lost what it took: what the
+    memory has of it would hide that."""
+    with safe.opened(safe.folder(part)) as within:
+        for name in (room.base, room.base + "-wal"):
+            with suppress(FileNotFoundError), safe.opened(safe.file_below(within, name)) as number:
+                os.posix_fadvise(number, 0, 0, os.POSIX_FADV_DONTNEED)
+
+
 def find_backups(room: Room) -> None:
     """The folder of backups has to be there, on its own disk, and nobody else's: the mount point of
     a disk that isn't mounted is an ordinary folder."""
     if not os.path.isdir(room.backups):
         raise Refused(f"no folder: {room.backups}, of BACKUPS in {room.conf}, isn't there")
-    resolved = os.path.realpath(room.backups) + "/"
-    for place in _mount_points():
-        if resolved.startswith(place.rstrip("/") + "/") and not os.path.ismount(place):
-            raise Refused(f"not mounted: {place}, which /etc/fstab has, so {room.backups}, of "
-                          f"BACKUPS in {room.conf}, isn't on its disk")
+    if why := backups.unmounted(room.backups):
+        raise Refused(why)
     if place := safe.of_others(room.backups):
         raise Refused(f"not root's: others can change {place}, on the way to {room.backups}, "
                       f"of BACKUPS in {room.conf}")
@@ -362,17 +369,3 @@ def close_backups(room: Room) -> None:
         if (os.geteuid() == seen.st_uid == 0 and seen.st_gid == room.group != 0
                 and seen.st_mode & 0o7777 == 0o710):
             os.fchmod(number, 0o700)
-
-
-def _mount_points() -> list[str]:
-    found = []
-    try:
-        with open(os.environ.get("ROOMS_ROOT", "") + "/etc/fstab", encoding="utf-8",
-                  errors="surrogateescape") as table:
-            for line in table:
-                words = line.split()
-                if len(words) > 1 and not line.startswith("#") and words[1].startswith("/"):
-                    found.append(words[1].replace("\\040", " "))
-    except OSError:
-        pass
-    return found

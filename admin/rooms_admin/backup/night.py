@@ -124,6 +124,7 @@ class Night:
         with locks.lock(self.room.unit, 10):
             copied = self.copy_alone()
         copying.keep(self.room, copied, self.part)
+        copying.forget(self.room, self.part)
 
     def copy_alone(self) -> copying.Copy:
         self.copied_at = dates.now()

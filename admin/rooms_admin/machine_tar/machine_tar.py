@@ -79,6 +79,7 @@ def find(conf: str, backup: str) -> str:
         pass
     folder = ROOT + folder
     if backup == "latest":
+        backups.need_disk(folder)
         found = backups.with_file(folder, settings.name_of(conf), "machine.tar")
         if not found:
             raise Refused(f"no machine: no backup in {folder} has a machine.tar")
