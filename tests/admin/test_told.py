@@ -129,6 +129,20 @@ class Told(unittest.TestCase):
             self.assertEqual([verb_tell.run(given) for _ in range(2)], [0, 0])
             self.assertEqual(len(sent), 2)
 
+    def test_each_warning_has_a_name_of_its_own(self) -> None:
+        """Systemd starts nothing for a second time while it is at work, as a slow mail is."""
+        unit = "rooms-nightly@office.service"
+        began: list[str] = []
+        with unittest.mock.patch.object(
+                mail, "_hand", lambda words, _text: began.append(words[-1])), \
+                unittest.mock.patch.dict(os.environ, ROOMS_UNIT=unit):
+            for _ in range(3):
+                mail.notify("root", "x", ["y"], "warning")
+        words = [one.removeprefix("rooms-tell@").removesuffix(".service") for one in began]
+        self.assertEqual(len(set(words)), 3)
+        self.assertEqual([mail.warned(one) for one in words], [(unit, True)] * 3)
+        self.assertEqual(mail.warned(unit), (unit, False))
+
     def test_addresses(self) -> None:
         for bad in ("http://[x", "http://a b", "ftp://x", "http://", "http:///x", "http://x:99999",
                     f"http://{'a' * 64}.example", "http://a..b", "http://x:y"):

@@ -10,7 +10,7 @@ from contextlib import suppress
 from unittest import mock
 
 from rooms_admin.cli.report import Stop
-from rooms_admin.host import locks
+from rooms_admin.host import locks, mail
 from rooms_admin.room import awaited, server, waits, way
 from rooms_services import listening as services, wait
 
@@ -227,6 +227,36 @@ class Waiting(Over):
         with mock.patch.dict(os.environ, MAINPID=str(1 << 30)), self.assertRaises(Stop):
             awaited.arrive("office")
         self.assertEqual(self.leads_to(), "")
+
+    def test_a_server_that_never_comes(self) -> None:
+        """Systemd starts it again and again, which is no failure to it: that is told, and once."""
+        told: list[str] = []
+
+        def ends(*rows: tuple[float, int]) -> None:
+            for now, count in rows:
+                with mock.patch.object(time, "monotonic", return_value=now):
+                    self.leaves("")
+                self.assertEqual(len(told), count, now)
+
+        with mock.patch.object(mail, "warn", told.append):
+            ends((1.0, 0), (30.0, 0), (31.5, 1), (99.0, 1))
+            # One that somebody stops isn't missed, and one that comes back may go again.
+            self.leaves("7 rooms@office.service stop running")
+            ends((200.0, 1), (229.0, 1), (231.0, 2))
+        self.assertEqual(told, ["rooms@office.service"] * 2)
+        self.server()
+        with mock.patch.object(awaited, "_answer", return_value=(200, b"{}")):
+            awaited.arrive("office")
+        self.assertFalse(os.path.exists(f"{self.run_}/rooms-down.office"))
+
+    def test_a_server_that_takes_long(self) -> None:
+        told: list[str] = []
+        self.server()
+        with mock.patch.object(mail, "warn", told.append), \
+                mock.patch.object(awaited, "_answer", side_effect=[None] * 4 + [(200, b"{}")]), \
+                mock.patch.object(time, "monotonic", side_effect=[5.0, 94.0, 96.0, 200.0]):
+            awaited.arrive("office")
+        self.assertEqual(told, ["rooms@office.service"])
 
     def answering(self) -> threading.Thread:
         """A server that has whom to answer before the question of who leaves."""

@@ -76,11 +76,11 @@ def result_of(is_warning: bool) -> str:
 
 
 def run(given: argparse.Namespace) -> int:
-    unit = given.unit.removeprefix(mail.WARNING)
+    unit, is_warning = mail.warned(given.unit)
     named = _UNIT.fullmatch(unit)
     if named is None:
         raise Refused(f"bad arguments: '{unit}' isn't a unit of rooms")
-    result = result_of(unit != given.unit)
+    result = result_of(is_warning)
     to = mail_of(named["room"] or "office")
     if not to:
         return 0

@@ -1,5 +1,7 @@
 """Who is told when a verb that nobody looks at has failed."""
+import itertools
 import os
+import re
 import shutil
 
 from . import commands
@@ -7,8 +9,10 @@ from ..cli import report
 from ..cli.report import plain, say
 
 
-# What stands before the name of a unit that goes on.
-WARNING = "warning:"
+# Of what stands before the name of a unit that goes on: of each warning of a run another one, since
+# systemd starts nothing for a second time while it is at work.
+_COUNT = itertools.count(1)
+_WARNING = re.compile("warning[0-9]*:")
 
 
 def deliver(to: str, subject: str, lines: list[str]) -> bool:
@@ -24,8 +28,7 @@ def notify(to: str, subject: str, lines: list[str], level: str = "err") -> None:
     the log of a unit: one that fails has it sent by OnFailure=, and a warning by the same unit."""
     if unit := os.environ.get("ROOMS_UNIT"):
         if level != "err" and to:
-            # By a name of its own: the run may still fail, and then that is told too.
-            _hand(["systemctl", "start", "--no-block", f"rooms-tell@{WARNING}{unit}.service"], "")
+            warn(unit)
         return
     if to and shutil.which("mail"):
         if deliver(to, subject, lines):
@@ -34,6 +37,20 @@ def notify(to: str, subject: str, lines: list[str], level: str = "err") -> None:
     if shutil.which("logger"):
         _hand(["logger", "-p", f"daemon.{level}", "-t", report.prog.replace(" ", "-"), "--",
                plain("\n".join(lines))], "")
+
+
+def warn(unit: str) -> None:
+    """What a unit has said, which goes on. By a name of its own: it may still fail, and then that
+    is told too."""
+    number = next(_COUNT)
+    which = f"warning{number if number > 1 else ''}:{unit}"
+    _hand(["systemctl", "start", "--no-block", f"rooms-tell@{which}.service"], "")
+
+
+def warned(word: str) -> tuple[str, bool]:
+    """The unit that such a name has, and whether it goes on."""
+    found = _WARNING.match(word)
+    return (word[found.end():], True) if found else (word, False)
 
 
 def _hand(words: list[str], text: str) -> bool:

@@ -2,11 +2,43 @@
 import http.client
 import os
 import time
+from contextlib import suppress
 
-from ..host import safe
+from ..host import locks, mail, safe
 from . import server, waits, way
-from ..cli.report import Stop
+from ..cli.report import Stop, say
 from ..host.at_socket import AtServer
+
+
+# For so many seconds one may end again and again before it answers.
+_FAILS = 30.0
+
+
+def _down(room: str) -> str:
+    """A file that is there while no server answers: since when, by the machine's own count, or that
+    it was told."""
+    return os.path.join(locks.RUN, f"rooms-down.{room}")
+
+
+def _tell_down(room: str, seconds: float) -> None:
+    """Once, if it has been so for as long. To systemd it is no failure: it starts the server anew,
+    or waits for it."""
+    now = time.monotonic()
+    with suppress(OSError, ValueError), open(_down(room), "a+", encoding="ascii") as file:
+        file.seek(0)
+        said = file.read()
+        if not said:
+            file.write(f"{now}\n")
+        elif said != "told\n" and now - float(said) >= seconds:
+            file.truncate(0)
+            file.write("told\n")
+            say(f"rooms@{room} doesn't answer within {now - float(said):.0f} s")
+            mail.warn(f"rooms@{room}.service")
+
+
+def _is_up(room: str) -> None:
+    with suppress(FileNotFoundError):
+        os.unlink(_down(room))
 
 
 def _asked(connection: http.client.HTTPConnection) -> tuple[int, bytes] | None:
@@ -39,8 +71,11 @@ def arrive(room: str) -> None:
     way.to_waiting(room)
     while _answer("", way.socket_of(room)) is None:
         _refuse_ended(room)
+        # Those who wait for it wait no longer than that.
+        _tell_down(room, waits.START)
         time.sleep(0.05)
     way.to_server(room)
+    _is_up(room)
 
 
 def _refuse_ended(room: str) -> None:
@@ -83,10 +118,13 @@ def leave(room: str) -> None:
     """One that has failed before it ever answered may do so again: nobody waits for that."""
     before = way.server_there(room)
     if _comes_back(room):
+        if before == -1:
+            _tell_down(room, _FAILS)
         if before == -1 or not way.to_waiting(room):
             way.close(room)
     else:
         way.close(room)
+        _is_up(room)
         server.stop_beside(room)
     if before != -1:
         with safe.opened(before):
