@@ -13,13 +13,14 @@ if ! has rrsync; then
 fi
 
 # In place of ssh: what it would run there is run here, below the folder `elsewhere`. With STAND/cut
-# the connection ends within the copy.
+# the connection ends within the copy; with STAND/talks there is no end of what it says.
 mkdir -p elsewhere/var/backups/rooms/standby
 cat >"$stand/bin/ssh" <<END
 #!/usr/bin/env bash
 printf '%s\n' "\$*" >>'$PWD/ssh.asked'
 while [ "\$1" != b.example ]; do shift; done
 shift
+[ ! -e '$stand/talks' ] || { yes talks | head -c 3000000 >&2; exit 1; }
 run() {
   cd / && SSH_ORIGINAL_COMMAND="\$*" exec rrsync -wo '$PWD/elsewhere/var/backups/rooms/standby'
 }
@@ -52,7 +53,12 @@ holds 'the next run brings all' eval '[ "$status" = 0 ] && has_document "$there"
 holds 'and leaves nothing else' [ "$(ls -A "$there")" = F ]
 PATH=$stand/bin:$PATH rsync -e 'ssh -l root' root@b.example:/F read >"$work/out" 2>&1
 holds 'whoever has the key reads nothing there' [ "$?" != 0 -a ! -e read ]
-rm "$stand/bin/ssh"
+# One that somebody has taken over talks on and on.
+: >"$stand/talks"
+stands
+says 'a machine that talks on' 1 "$remote doesn't get the copy"
+holds "of which no more is told: $(wc -c <"$work/err")" [ "$(wc -c <"$work/err")" -lt 3000 ]
+rm "$stand/talks" "$stand/bin/ssh"
 
 # sshd itself, in a network of its own, where the machine b.example is this one.
 sshd=$(PATH=$PATH:/usr/sbin command -v sshd)

@@ -13,6 +13,8 @@ from ..room.held import NotHeld
 from ..room.settings import Room
 
 LAST = "the last copy stays"
+# Bytes that the other machine may say, with its greeting, and letters of it that are told.
+_SAID, _TOLD = 1 << 16, 1000
 
 
 def copy(room: Room, own: str) -> copying.Copy | None:
@@ -80,13 +82,13 @@ def send(room: Room) -> None:
     does; rsync itself ends where that is dead."""
     if not room.standby:
         return
-    done = commands.together(
+    done = commands.beyond(
         ["nice", "rsync", "--ignore-times", "--times", "--perms", "--no-whole-file", "--fsync",
          "--timeout=60", "-e", "ssh -o BatchMode=yes -o ConnectTimeout=10", "--",
          f"{backups.folder(room)}/standby/{room.base}", f"{room.standby}/"],
-        None)
+        _SAID)
     if done.status != 0:
-        raise Stop(f"{room.standby} doesn't get the copy: {done.out}")
+        raise Stop(f"{room.standby} doesn't get the copy: {done.out[-_TOLD:]}")
 
 
 def make(room: Room) -> None:

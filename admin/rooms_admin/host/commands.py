@@ -65,6 +65,22 @@ def together(words: Sequence[str], seconds: float | None = SECONDS) -> Done:
                 stderr=subprocess.STDOUT, cwd="/")
 
 
+def beyond(words: Sequence[str], most: int) -> Done:
+    """As `together`, where another machine says how long it takes, and how much it says: it is
+    ended where that is more than so many bytes."""
+    with subprocess.Popen(words, stdin=NOTHING, stdout=PIPE, stderr=TOGETHER, cwd="/",
+                          env=_ours()) as one:
+        assert one.stdout
+        try:
+            said = one.stdout.read(most + 1)
+            if len(said) > most:
+                one.kill()
+        except BaseException:
+            one.kill()
+            raise
+    return Done(one.returncode, said[:most].decode(errors="backslashreplace").strip(), "")
+
+
 def faults(words: Sequence[str], seconds: float | None = SECONDS) -> Done:
     """What it prints, which may be more than fits into memory, is for nobody."""
     return _run(words, seconds, stdin=subprocess.DEVNULL, stdout=subprocess.DEVNULL,
