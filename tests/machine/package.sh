@@ -172,6 +172,26 @@ holds 'by its words' grep -q 'nginx refuses its files, and they are as before' "
 holds 'the site is the old one' \
   eval '! grep -q "server_name rooms.example hr.example" "$machine/etc/nginx/sites-available/rooms"'
 does 'once they are mended' 'rm /etc/rooms/nginx/server.d/x.conf; rooms-admin setup && nginx -t -q'
+# One that is cut off when nginx's file is there, and nginx hasn't read it: the same again has it do
+# so, and isn't done with a look at the file alone.
+drive() { # STATUS
+  inside "curl -s -o /dev/null -w '%{http_code}' -u alice:typed -X OPTIONS http://127.0.0.1/drive/"
+  holds "$1 at the drive's place" [ "$(cat "$work/out")" = "$1" ]
+}
+cat >"$machine/usr/local/sbin/nginx" <<'END'
+#!/bin/sh
+[ "$*" != '-t -q' ] || kill -9 $PPID
+exec /usr/sbin/nginx "$@"
+END
+chmod 755 "$machine/usr/local/sbin/nginx"
+drive 404
+does 'a setup that is killed' 'rooms-admin set DRIVE=yes; ! rooms-admin setup
+  rm /usr/local/sbin/nginx; grep -q /drive /etc/nginx/sites-available/rooms'
+drive 404
+does 'the same again' 'rooms-admin setup'
+holds 'has nginx read its file' grep -qx 'systemctl reload nginx' "$work/out"
+does 'no drive' 'rooms-admin set DRIVE=; rooms-admin setup; rooms-admin setup'
+holds 'which it reads once' [ "$(grep -c 'reload nginx' "$work/out")" = 1 ]
 holds 'the site is new' \
   grep -q 'server_name rooms.example hr.example' "$machine/etc/nginx/sites-available/rooms"
 echo '# mine' >>"$machine/etc/nginx/sites-available/rooms"

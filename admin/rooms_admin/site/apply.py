@@ -1,7 +1,8 @@
 """nginx's one file, its link and the start page brought into line with the settings, or none."""
 import os
+from contextlib import suppress
 
-from ..host import changes
+from ..host import changes, locks
 from ..backup import for_search
 from ..room import names, settings
 from . import connections, password_files, ports, template, values
@@ -13,6 +14,8 @@ _TARGET = "../sites-available/rooms"
 _OURS = {_TARGET, template.FILE}
 _DEFAULT = "/etc/nginx/sites-enabled/default"
 FOLDERS = ("/etc/rooms/nginx/http.d", "/etc/rooms/nginx/server.d")
+# It is there from before nginx's files are written until nginx has read them.
+_UNREAD = os.path.join(locks.FOLDER, "nginx~")
 
 
 def edited(root: str) -> bool:
@@ -42,6 +45,33 @@ def folders(made: Changes) -> None:
         made.folder("/run/rooms-front", 0o710, group=changes.NGINX)
 
 
+def _is_unread(made: Changes) -> bool:
+    """Whether a run that was cut off has left nginx with what it had read before. From here on this
+    one may."""
+    if made.root or made.dry:
+        return False
+    is_left = os.path.exists(_UNREAD)
+    with suppress(OSError):
+        os.close(os.open(_UNREAD, os.O_WRONLY | os.O_CREAT | os.O_CLOEXEC, 0o600))
+    return is_left
+
+
+def _read(made: Changes) -> None:
+    if not made.root and not made.dry:
+        with suppress(OSError):
+            os.unlink(_UNREAD)
+
+
+def _show_edited(made: Changes, wanted: template.Site, start: bytes) -> bool:
+    """The file of somebody's own stays, and what it would be is beside it."""
+    text = template.render(template.template("site.conf.in"), wanted)
+    if template.read(made.root + template.FILE) != text and made.does(f"file {template.FILE}.new"):
+        template.keep_edited(made.root, text)
+    made.file(template.START, start)
+    connections.put(made, wanted)
+    return template.read(made.root + template.FILE) == text
+
+
 def show(made: Changes) -> bool:
     """Whether nginx has the site of the settings now. If it refuses that, all is as before."""
     root = made.root
@@ -58,27 +88,25 @@ def show(made: Changes) -> bool:
         password_files.leave(root, wanted)
     start = template.start_page(wanted).encode(errors="surrogateescape")
     if is_edited:
-        text = template.render(template.template("site.conf.in"), wanted)
-        if template.read(root + template.FILE) != text and made.does(f"file {template.FILE}.new"):
-            template.keep_edited(root, text)
-        made.file(template.START, start)
-        connections.put(made, wanted)
-        return template.read(root + template.FILE) == text
-    made.forget()
+        return _show_edited(made, wanted, start)
+    is_unread = _is_unread(made)
     count = made.count
     gone = password_files.move(made, wanted)
     text = template.render(template.template("site.conf.in"), wanted)
     made.file(template.FILE, text.encode(errors="surrogateescape"))
     changed = made.count > count
-    changed = enable(made) or changed
+    changed = enable(made) or changed or is_unread
     if not root and not made.dry:
         if refusal := changes.nginx_refuses():
             made.put_back()
+            if not is_unread:
+                _read(made)
             raise Stop(f"nginx refuses its files, and they are as before: {refusal}")
     made.forget()
     made.file(template.START, start)
     if changed:
         made.systemctl("reload", "nginx")
+    _read(made)
     password_files.finish(made, gone)
     connections.put(made, wanted)
     serve(made, wanted)
