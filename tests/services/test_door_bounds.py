@@ -59,6 +59,13 @@ class Memory(Over):
             self.assertLess(self.peak("GET", target), MEGABYTE, target[:12])
         with mock.patch.object(looking, "LARGEST", 1 << 30):
             self.assertLess(self.peak("PROPFIND", f"/drive/{deepest}", Depth="1"), MEGABYTE)
+        # By one letter Python keeps four bytes for each of a text.
+        self.room.objects[(*self.above, "\U0001d538")] = b""
+        first = self.above[0]
+        self.assertLess(self.peak("GET", f"/door/goes/?{first}"), MEGABYTE)
+        self.assertLess(self.peak("POST", "/door/remove/", body=json.dumps([first]),
+                                  If_Match="*"), MEGABYTE)
+        self.assertEqual(set(self.room.objects), {()})
 
     def test_what_would_be_too_long_is_not_begun(self) -> None:
         for number in range(300):

@@ -1,6 +1,8 @@
 """Entity tags: of documents and lists, and as the fields If-Match and If-None-Match name them (RFC
 9110 sections 8.8.3 and 13)."""
+import hashlib
 import re
+from collections.abc import Iterable, Iterator
 
 from rooms_admin.room import in_parts
 
@@ -12,6 +14,24 @@ _NEXT = re.compile(r'[ \t,]*(?:(W/)?("[\x21\x23-\x7e\x80-\xff]*")[ \t]*(?=,|$))?
 def tag_of(body: bytes) -> str:
     """By whatever address it is read."""
     return in_parts.tag_in(in_parts.digest_of(body))
+
+
+def tag_of_texts(texts: Iterable[tuple[bytes, bytes]]) -> str:
+    """Of all of them, in whatever order. Each is given as its beginning, mostly that of the one
+    before, and its rest: of it there is a digest in memory, and it may be a hundred times as
+    long."""
+    return tag_of(b"".join(sorted(_digests(texts))))
+
+
+def _digests(texts: Iterable[tuple[bytes, bytes]]) -> Iterator[bytes]:
+    before: bytes | None = None
+    begun = hashlib.sha256()
+    for begin, rest in texts:
+        if begin is not before:
+            before, begun = begin, hashlib.sha256(begin)
+        one = begun.copy()
+        one.update(rest)
+        yield one.digest()
 
 
 def tags_in(text: str) -> list[tuple[bool, str]] | None:

@@ -1,11 +1,11 @@
 """What goes with an object that is removed: all below it, and whether the caller may remove it. The
 room removes only empty folders, so whoever removes a folder has to know before."""
-from collections.abc import Iterable
+from collections.abc import Iterable, Iterator
 
 from ...room.answers import Answer, told_as_it_comes
 from ...room.paths import Names
 from ...room.room import Reply, Room
-from ...room.tags import tag_of
+from ...room.tags import tag_of_texts
 from .walk import Node, Step, Walk, refuse_long, top_of
 
 # What it asks of each object: the rights by which it goes, and whether what is in it may be listed.
@@ -28,7 +28,18 @@ def barrier(own: dict[str, object], above: dict[str, object]) -> str:
 
 def tag_of_all(nodes: Iterable[Node]) -> str:
     """Another one if something comes to these objects, or goes."""
-    return tag_of("\n".join(sorted(f"{node.kind} {node.path}" for node in nodes)).encode())
+    return tag_of_texts(_paths(nodes))
+
+
+def _paths(nodes: Iterable[Node]) -> Iterator[tuple[bytes, bytes]]:
+    """Of each that of its folder, and its name, a folder's with a slash behind it."""
+    above: Node | None = None
+    path = b""
+    for node in nodes:
+        if node.above is not above:
+            above = node.above
+            path = above.path.encode() if above else b""
+        yield path, b"/" + node.name + (b"/" if node.is_folder else b"")
 
 
 class Goes:
