@@ -152,6 +152,24 @@ class Large(Over):
         self.assertEqual(answer.body, listing.body)
         self.assertLess(taken, 7900 * 150)
 
+    def test_a_zip_of_what_is_far_down(self) -> None:
+        """Ten thousand paths of two thousand names would be 160 MB, and their texts as much."""
+        names = [{"kind": "document", "name": f"{number:05}"} for number in range(1000)]
+        last = json.dumps(names, separators=(",", ":")).encode()
+        more = b'[{"kind":"folder","name":"\xf0\x9d\x94\xb8"}]'
+
+        def judged(word: str, path: tuple[str, ...]) -> Answer:
+            if word == "doc":
+                return Answer(403 if path[-1] < "00500" else 200, path[-1].encode())
+            return Answer(200, more if len(path) < 300 else last)
+        tracemalloc.start()
+        given = whole.archive(judged, lambda reply: reply, ("x",) * 200, None)
+        size = sum(map(len, given.parts or ()))
+        taken = tracemalloc.get_traced_memory()[1]
+        tracemalloc.stop()
+        self.assertGreater(size, 700_000)
+        self.assertLess(taken, 1_500_000)
+
     def test_an_answer_that_is_too_large(self) -> None:
         for room in (self.now, self.then):
             room.make(letters__reply=b"x" * 1000)

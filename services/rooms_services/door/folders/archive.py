@@ -4,7 +4,8 @@ as it is read. So a fault in the middle breaks the download off, and no half ZIP
 import re
 import time
 import unicodedata
-from collections.abc import Callable, Iterable, Iterator
+from collections.abc import Callable, Iterable, Iterator, Sequence
+from typing import Protocol
 from urllib.parse import quote
 
 from rooms_admin.cli import signs
@@ -209,19 +210,24 @@ class Archive:
         names = [self._places(self.folders), self._places(sent)]
         if self.left_out:
             name = self._place(self.folders[0]) + self.list_of_rest
-            yield from out.entry(name, _Lines(self.left_out))
+            yield from out.entry(name, Lines(self.left_out))
             names.append(iter([name]))
         yield from out.end(one for some in names for one in some)
 
 
-class _Lines:
+class Placed(Protocol):
+    @property
+    def path(self) -> str: ...
+
+
+class Lines:
     """The paths of what was left out."""
 
-    def __init__(self, nodes: list[Node]) -> None:
-        self._nodes = nodes
+    def __init__(self, left_out: Sequence[Placed]) -> None:
+        self._left_out = left_out
 
     def __iter__(self) -> Iterator[bytes]:
-        return (f"{node.path}\r\n".encode() for node in self._nodes)
+        return (f"{one.path}\r\n".encode() for one in self._left_out)
 
 
 def archive(room: Room, user: str, names: Names, chosen: frozenset[str] | None = None,
