@@ -138,6 +138,21 @@ class Drive(Large):
             self.assertEqual(self.got(path="e/x"), b"small")
             self.assertEqual(self.dav("DELETE", "/e/x"), 204)
 
+    def test_replaced_while_it_takes_another_one_s_place(self) -> None:
+        """What somebody else has saved by then doesn't go."""
+        other, copied = data_of(4 * SMALL, 3), []
+        self.assertEqual(self.dav("PUT", "/p/e", b"small"), 201)
+        write = replacing.write
+
+        def later(*given: Any) -> Answer:
+            copied.append(write(*given))
+            self.assertEqual(self.put(other, match="*"), 204)
+            return copied[0]
+        with mock.patch.object(replacing, "write", later):
+            self.assertEqual(self.dav("MOVE", "/p/d", Destination="/drive/p/e"), 412)
+        self.assertEqual(self.got(), other)
+        self.assertEqual(self.got(path="p/e"), self.data)
+
     def test_copied(self) -> None:
         self.assertEqual(self.dav("COPY", "/p/d", user="bob", Destination="/drive/p/x"), 201)
         self.assertEqual((self.got(path="p/x"), self.got()), (self.data, self.data))

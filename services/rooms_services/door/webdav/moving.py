@@ -151,6 +151,9 @@ def _move_parts_over(drive: Drive, call: Call, to: Names, manifest: Manifest) ->
         _may_leave(call)
         _copy_parts(drive, call, to, manifest)
         with call.alone():
+            # (others came between, who may have saved it by another way)
+            if manifest_in(drive.look(call, call.names, True)) != manifest:
+                raise Stop(412, "changed", "it was replaced meanwhile, and stays where it is")
             reply = together.remove(call.ask, call.names, call.rest)
         return _answer(call, _removed(drive, call, call.names, reply), Answer(204))
 
