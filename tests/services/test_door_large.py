@@ -344,6 +344,18 @@ class Together(Large):
                 self.assertLess(max(self.judged.connections), 18, target)
         self.assertEqual(self.judged.names("p"), [])
 
+    def test_sooner_far_down(self) -> None:
+        """There each question takes the room as long as several others."""
+        place = "p" + "/x" * 40
+        for depth in range(1, 41):
+            self.judged.does("pat", "POST", "/folder/p" + "/x" * depth)
+        self.assertEqual(self.put(data_of(4 * SMALL), path=f"{place}/d"), 201)
+        with mock.patch.object(large, "HELD", 10):
+            self.judged.connections.clear()
+            self.assertEqual(self.ask("DELETE", f"/door/object/{place}/d", user="pat")[0], 204)
+            self.assertLess(max(self.judged.connections), 20)
+        self.assertEqual(self.parts(f"{place}/d"), [])
+
     def move(self, to: str, user: str) -> int:
         return self.ask("POST", "/door/move/p/d", json.dumps({"to": to}), user)[0]
 

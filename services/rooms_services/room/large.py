@@ -7,12 +7,13 @@ from rooms_admin.room.in_parts import Manifest
 
 from .answers import Stop
 from .paths import LONGEST_NAME, LONGEST_PATH, Names, shown
-from .room import Ask, Reply, Room, about, listed
+from .room import DEEP, Ask, Reply, Room, about, listed
 
 Asks = Callable[[Ask], Reply]
 # Lets others ask the room, where what belongs together is asked over one connection.
 Rest = Callable[[], None]
-# After so many: more than a document of 200 MB has. Somebody may have made very many by hand.
+# After so many: more than a document of 200 MB has. Somebody may have made very many by hand, or
+# far down, where each takes the room as long as several others.
 HELD = 512
 
 
@@ -45,7 +46,7 @@ def is_there(ask: Asks, names: Names) -> bool:
 def count(ask: Asks, names: Names, rest: Rest | None = None) -> int:
     """How many parts lie beside it, numbered from 1 on."""
     number = 0
-    for number in resting(range(1, in_parts.MOST + 1), rest):
+    for number in resting(range(1, in_parts.MOST + 1), rest, names):
         if not names or not is_there(ask, part(names, number)):
             return number - 1
     return number
@@ -76,10 +77,11 @@ def is_document(ask: Asks, names: Names) -> bool:
     return ask(about("GET", "folder", names)._replace(is_bare=True)).why == "wrong-kind"
 
 
-def resting(numbers: Iterable[int], rest: Rest | None) -> Iterator[int]:
+def resting(numbers: Iterable[int], rest: Rest | None, names: Names) -> Iterator[int]:
+    held = max(1, HELD // (1 + len(names) // DEEP))
     for place, number in enumerate(numbers, 1):
         yield number
-        if rest and place % HELD == 0:
+        if rest and place % held == 0:
             rest()
 
 

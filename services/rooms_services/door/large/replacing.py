@@ -275,7 +275,7 @@ class Writing:
 def empty(ask: Asks, names: Names, numbers: Iterable[int], rest: Rest | None = None) -> None:
     """What was replaced is gone. Whoever may write the document may do that; what has no more than
     the name of a part stays."""
-    for number in large.resting(sorted(numbers), rest):
+    for number in large.resting(sorted(numbers), rest, names):
         place = large.part(names, number)
         if ask(about("GET", "can", place, "w")).rulings().get("w"):
             ask(about("PUT", "doc", place))
