@@ -4,6 +4,10 @@
                                             is typed; prints how many bytes were sent
     limits.py names PORT SECONDS            the same by HTTP/2, where a field that was sent once is
                                             named by one byte; prints how many requests there were
+    limits.py streams PORT NUMBER           so many connections by HTTP/2 with 100 requests each,
+                                            of 60 kB and without a right password, whose answers
+                                            nobody takes, until standard input ends; prints how many
+                                            were answered
     limits.py pace PORT WHO TARGET NUMBER   by eight connections as fast as they are answered;
                                             prints with which statuses so many were, and how many
                                             more in the next five seconds
@@ -16,6 +20,7 @@ import contextlib
 import selectors
 import socket
 import ssl
+import struct
 import sys
 import threading
 import time
@@ -96,6 +101,43 @@ def names(port, seconds):
     print(asked)
 
 
+def streams(port, count):
+    context = ssl.create_default_context()
+    context.check_hostname = False
+    context.verify_mode = ssl.CERT_NONE
+    context.set_alpn_protocols(["h2"])
+    host, typed, field = b"rooms.example", b"Basic eA==", b"v" * 4000
+    # No byte of an answer may be sent but its head.
+    sent = http2.PREFACE[:24] + http2.frame(http2.SETTINGS, 0, 0, struct.pack(
+        ">HI", http2.INITIAL_WINDOW, 0))
+    head = (b"\x82\x87\x84\x01" + number(len(host)) + host
+            + b"\x0f\x08" + number(len(typed)) + typed)
+    for turn in range(100):
+        fields = b"\xbe" * 15 if turn else b"\x40\x01x" + number(len(field)) + field
+        sent += http2.frame(http2.HEADERS, http2.END | http2.WHOLE, 2 * turn + 1, head + fields)
+    held, met = [], 0
+    for _ in range(int(count)):
+        held.append(context.wrap_socket(connected(port), server_hostname="rooms.example"))
+        held[-1].sendall(sent)
+    for one in held:
+        met += answered_heads(one)
+    print(met, flush=True)
+    sys.stdin.read()
+
+
+def answered_heads(one):
+    """Until nothing has come for a second."""
+    got, heads, place = b"", 0, 0
+    one.settimeout(1)
+    with contextlib.suppress(OSError):
+        while part := one.recv(1 << 16):
+            got += part
+    while place < len(got):
+        heads += got[place + 3] == http2.HEADERS
+        place += 9 + int.from_bytes(got[place:place + 3], "big")
+    return heads
+
+
 def number(size):
     """The length of a text, as HPACK has it."""
     return http2.text_of("x" * size)[:-size]
@@ -155,4 +197,5 @@ def holds(port, who, target, number):
     sys.stdin.read()
 
 
-{"log": log, "names": names, "goes": goes, "holds": holds, "pace": pace}[sys.argv[1]](*sys.argv[2:])
+{"log": log, "names": names, "streams": streams, "goes": goes, "holds": holds,
+ "pace": pace}[sys.argv[1]](*sys.argv[2:])

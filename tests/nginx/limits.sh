@@ -165,6 +165,24 @@ if certify_front && start_front 'limits of HTTP/2' tls; then
   holds "$asked requests by HTTP/2, the log grows by $grown" \
     [ "$asked" -gt 1000 -a "$grown" -lt 450000 ]
   holds 'it has some of them' grep -q ' - - \[.*\] "GET /" 401 ' rooms.log
+  # Whoever has no password has its memory by answers that they don't take.
+  memory() {
+    local worker
+    for worker in $(cat "/proc/$proxy/task/$proxy/children"); do cat "/proc/$worker/status"; done |
+      awk '/^VmRSS/ { sum += $2 } END { print sum }'
+  }
+  before=$(memory)
+  rm -f met
+  mkfifo until
+  limits streams "$secure" 20 <until >met &
+  holding=$!
+  exec 9>until
+  began=$SECONDS
+  until [ -s met ] || [ $((SECONDS - began)) -ge "$patience" ]; do sleep 0.1; done
+  grown=$(($(memory) - before))
+  holds "$(cat met) answers that nobody takes have $grown kB of memory" \
+    [ "$(cat met)" -ge 100 -a "$grown" -lt 40000 ]
+  let_go
   stop_proxy
   # Nor has anybody to say there how long a document is.
   sets office LARGEST 20
