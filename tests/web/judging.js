@@ -41,7 +41,7 @@ Promise.all(modules).then(([{ readEntry, printEntry }, { passedDown }, words, si
   }
 
   const tried = words.sentenceOf({ status: 429, body: null });
-  has('too many tries', tried, 'Too many passwords were tried', 'Wait a minute');
+  has('too many tries', tried, 'too many passwords were tried', 'Wait a minute');
 
   // What leaves open whether the request was carried out says so, and never that nothing changed.
   for (const status of [0, 500, 504]) {

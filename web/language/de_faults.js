@@ -58,8 +58,8 @@ const STATUSES = {
   401: 'Ihr Kennwort wird nicht mehr angenommen; vielleicht wurde es geändert. Laden Sie die Seite '
     + 'neu, und melden Sie sich mit dem neuen an.',
   405: 'Der Raum kennt diese Anfrage nicht. Laden Sie die Seite neu.',
-  429: 'Es wurden zu viele Kennwörter versucht. Warten Sie eine Minute, und laden Sie dann die '
-    + 'Seite neu.',
+  429: 'Es war zu viel auf einmal, oder es wurden zu viele Kennwörter versucht. Warten Sie eine '
+    + 'Minute, und laden Sie dann die Seite neu.',
   431: 'Die Anfrage war zu lang. Wählen Sie einen kürzeren Namen.',
   500: 'Der Raum konnte das nicht speichern oder lesen. Vielleicht wurde es geändert, vielleicht '
     + 'nicht: Sehen Sie zuerst nach, und versuchen Sie es dann erneut; wenn das nicht hilft, '

@@ -50,7 +50,8 @@ const STATUSES = {
   401: 'Your password isn’t accepted any more; it may have been changed. Load the page again and '
     + 'sign in with the new one.',
   405: 'The room doesn’t know this request. Load the page again.',
-  429: 'Too many passwords were tried. Wait a minute, then load the page again.',
+  429: 'Too much was asked for at once, or too many passwords were tried. Wait a minute, then load '
+    + 'the page again.',
   431: 'The request was too long. Choose a shorter name.',
   500: 'The room couldn’t store or read this. It may or may not have been changed: look first, '
     + 'then try again; if that doesn’t help, tell the administrator.',

@@ -58,7 +58,8 @@ const STATUSES = {
   401: 'Votre mot de passe n’est plus accepté ; il a peut-être été changé. Rechargez la page et '
     + 'connectez-vous avec le nouveau.',
   405: 'La salle ne connaît pas cette demande. Rechargez la page.',
-  429: 'Trop de mots de passe ont été essayés. Attendez une minute, puis rechargez la page.',
+  429: 'C’était trop à la fois, ou trop de mots de passe ont été essayés. Attendez une minute, '
+    + 'puis rechargez la page.',
   431: 'La demande était trop longue. Choisissez un nom plus court.',
   500: 'La salle n’a pas pu enregistrer ou lire cela. Cela a peut-être été modifié, peut-être '
     + 'pas : vérifiez d’abord, puis réessayez ; si cela ne suffit pas, prévenez l’administrateur.',

@@ -1,6 +1,7 @@
 // Requests for the folder that is opened first, sent before the rest of the page is there.
 
 import { target, whereIs } from './addresses.js';
+import { paced } from './paced.js';
 
 // What it is asked of a folder that the caller may do there.
 export const ASKED = 'rxwaDtcCo';
@@ -31,5 +32,6 @@ export function withSent(replies, does) {
   return done;
 }
 
-// As fetch does it.
-export const replyTo = (where, given = GIVEN) => sent.get(where) ?? fetch(where, given);
+// As fetch does it, and not more of a kind at once than nginx lets through.
+export const replyTo = (where, given = GIVEN) =>
+  sent.get(where) ?? paced(where, () => fetch(where, given));
