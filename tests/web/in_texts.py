@@ -107,6 +107,21 @@ class InTexts:
             assert words in said, (words, said)
         assert alice.unnamed() == [], alice.unnamed()
 
+    def readable(self):
+        """A name stands in one line and what is in the text below it, on a desk and a telephone."""
+        long = {**PLAN, 'path': '/deep/er/Notice of all days of June.pdf',
+                'text': ['the ' * 30, 'Kündigung', 'sschreiben of Ms Müller' * 4]}
+        for width in (1280, 390):
+            self.alice.resize(width, 844)
+            alice = self.opened(says=told([long]))
+            self.looked('kündigung')
+            alice.until(lambda: alice.all('.snippet'), 'texts')
+            name, text = (alice.one(f'.in-texts {css}').rect for css in ('.name', '.snippet'))
+            assert name['height'] < 30 and text['y'] >= name['y'] + name['height'], (width, name)
+            assert text['width'] > width * 0.7, (width, text)
+            assert not alice.is_wider()
+        self.alice.resize(1200, 900)
+
     def by_keys(self):
         """From the field down through names and texts, and back by Escape."""
         alice = self.opened(says=told([PLAN, {**PLAN, 'path': '/deep/other.pdf'}]))
@@ -208,6 +223,7 @@ class InTexts:
 
 
 PLAY = [('where no texts are searched', InTexts.without), ('names and texts', InTexts.both),
+        ('names that are read', InTexts.readable),
         ('by keys', InTexts.by_keys), ('what is read aloud', InTexts.read_aloud),
         ('what is hostile', InTexts.as_text), ('a place by a press', InTexts.later),
         ('nothing is found', InTexts.none),
