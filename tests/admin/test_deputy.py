@@ -4,17 +4,22 @@ import ctypes
 import fcntl
 import os
 import pty
+import pwd
 import resource
+import socket
 import subprocess
 import sys
 import tempfile
 import time
+import types
+import typing
 import unittest
 
 ADMIN = os.path.join(os.path.dirname(os.path.abspath(__file__)), "..", "..", "admin")
 sys.path.insert(0, ADMIN)
 
-from rooms_admin.host import commands, handed_on, locks, waiting  # noqa: E402
+from rooms_admin.host import as_user, commands, handed_on, locks, waiting  # noqa: E402
+from rooms_admin.room import program  # noqa: E402
 
 OOM = "/proc/self/oom_score_adj"
 SMALL = {resource.RLIMIT_NOFILE: 60, resource.RLIMIT_FSIZE: 1 << 20, resource.RLIMIT_CPU: 9,
@@ -72,6 +77,32 @@ class HandedOn(unittest.TestCase):
         self.assertEqual(os.read(at, 100), b"typed none")
         os.waitpid(child, 0)
         os.close(at)
+
+
+@unittest.skipUnless(os.geteuid() == 0, "what root alone hands on")
+class Sockets(unittest.TestCase):
+    """Whoever took a program over by the file that it reads would send that elsewhere."""
+
+    def test_the_program_makes_none(self) -> None:
+        with tempfile.TemporaryDirectory() as folder:
+            os.chmod(folder, 0o755)
+            with open(f"{folder}/program", "w", encoding="ascii") as made:
+                made.write("#!/usr/bin/python3 -I\nimport socket\nsocket.socket(socket.AF_UNIX)\n")
+            os.chmod(f"{folder}/program", 0o755)
+            room = typing.cast(typing.Any, types.SimpleNamespace(
+                program=f"{folder}/program", owner=65534, group=65534, memory=0))
+            for _, _, said in (program.on_copy(room, f"{folder}/program", ["verify"]),
+                               program.run(room, ["groups"]), program.on_text(room, "would", b"")):
+                self.assertRegex(said, r"\nPermissionError: ")
+
+    def test_nor_does_a_look_as_its_user(self) -> None:
+        def look() -> list[list[str]]:
+            try:
+                socket.socket(socket.AF_UNIX)
+                return [["made"]]
+            except PermissionError:
+                return [["none"]]
+        self.assertEqual(as_user.as_user(pwd.getpwnam("nobody"), look), [["none"]])
 
 
 def asks(folder: str, says: int, user: str, until: int = -1) -> None:

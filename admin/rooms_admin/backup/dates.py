@@ -142,7 +142,7 @@ def _told_by_door(reader: int, above: str) -> tuple[bytes, str]:
     """What the helper prints as the door's user, and what it says of faults. Whoever else is that
     user may hold it."""
     who = None if os.geteuid() == reader else commands.Who(reader, _NO_GROUP)
-    with commands.started([sys.executable, "-IB", _OF_DOOR, _STORE], program.limits(0), who,
+    with commands.started([sys.executable, "-IB", _OF_DOOR, _STORE], program.alone(0), who,
                           stdin=commands.NOTHING, cwd=above) as child:
         assert child.stdout and child.stderr
         said, late = _read(child.stdout.fileno(), time.monotonic() + _PATIENCE)

@@ -12,7 +12,7 @@ import tempfile
 from collections.abc import Callable, Iterator
 from contextlib import closing, contextmanager, suppress
 
-from . import commands, tempdirs
+from . import commands, processes, tempdirs
 
 Work = Callable[[], list[list[str]]]
 # Bytes: twice the largest document, and as much for the log.
@@ -34,6 +34,7 @@ def as_user(user: pwd.struct_passwd, work: Work) -> list[list[str]]:
                 os.setgroups([])
                 os.setresgid(user.pw_gid, user.pw_gid, user.pw_gid)
                 os.setresuid(user.pw_uid, user.pw_uid, user.pw_uid)
+                processes.reach_nobody()
             text = json.dumps(work()).encode()
             while text:
                 text = text[os.write(theirs, text):]

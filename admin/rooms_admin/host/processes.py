@@ -1,7 +1,9 @@
 """Processes of the machine."""
 import ctypes
 import os
+import platform
 import signal
+import struct
 
 from ..cli import report
 
@@ -11,6 +13,16 @@ _ENDS_WITH_PARENT, _GETS_ORPHANS, _AMBIENT, _CLEAR_ALL = 1, 36, 47, 4
 # How many nanoseconds later than said a wait may end, as of any process; and the call by which a
 # process says when it comes to the disk.
 _LATE, _AT_MOST, _SET_TURN = 29, 50_000, 251
+# A filter of calls, as linux/filter.h and linux/seccomp.h have it: an operation, where it goes on
+# if that is so and if not, and a number. On the one processor for which there is a package it
+# refuses to make a socket, or a ring by which one could be made, and calls in the form of another.
+_NO_MORE_RIGHTS, _SET_FILTER, _BY_ROWS = 38, 22, 2
+_LOAD, _IS, _IS_FROM, _RETURN = 0x20, 0x15, 0x35, 0x06
+_ROWS = ((_LOAD, 0, 0, 4), (_IS, 0, 5, 0xC000003E), (_LOAD, 0, 0, 0), (_IS_FROM, 3, 0, 1 << 30),
+         (_IS, 2, 0, 41), (_IS, 1, 0, 425), (_RETURN, 0, 0, 0x7FFF0000), (_RETURN, 0, 0, 0x50001))
+_WRITTEN = ctypes.create_string_buffer(b"".join(struct.pack("=HBBI", *row) for row in _ROWS))
+_FILTER = ctypes.create_string_buffer(
+    struct.pack("@HP", len(_ROWS), ctypes.addressof(_WRITTEN)))
 
 
 def end_with_parent() -> None:
@@ -21,6 +33,14 @@ def end_with_parent() -> None:
 def hand_on_no_right() -> None:
     """For a child that need not have what its parent's unit allows that one."""
     _LIBC.prctl(_AMBIENT, _CLEAR_ALL, 0, 0, 0)
+
+
+def reach_nobody() -> None:
+    """For a child that reads what somebody else has made, and which that might take over: it makes
+    no connection, to another machine or to a service of this one."""
+    if platform.machine() == "x86_64":
+        _LIBC.prctl(_NO_MORE_RIGHTS, 1, 0, 0, 0)
+        _LIBC.prctl(_SET_FILTER, _BY_ROWS, _FILTER)
 
 
 def wait_and_read_as_others() -> None:

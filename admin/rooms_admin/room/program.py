@@ -70,6 +70,16 @@ def limits(megabytes: int) -> Callable[[], None]:
     return less
 
 
+def alone(megabytes: int) -> Callable[[], None]:
+    """The same for one that asks nobody."""
+    less = limits(megabytes)
+
+    def before() -> None:
+        less()
+        processes.reach_nobody()
+    return before
+
+
 def enough(room: Room, file: str) -> int:
     """How many megabytes the program may have for what it does with a room's file. Where that has
     records alone, they take ten times their bytes."""
@@ -112,7 +122,7 @@ def _run(room: Room, words: list[str | bytes], who: commands.Who | None, stdin: 
          megabytes: int, stdout: int, pass_fds: tuple[int, ...], cwd: str | None
          ) -> tuple[int, bytes, str]:
     with _first_to_go():
-        child = commands.started([room.program, *words], limits(megabytes), who, stdout=stdout,
+        child = commands.started([room.program, *words], alone(megabytes), who, stdout=stdout,
                                  pass_fds=pass_fds, cwd=cwd)
     with child:
         try:
@@ -229,7 +239,7 @@ def _on_copy(room: Room, copied: str, before: list[str | bytes], words: list[str
     with _first_to_go():
         child = commands.started(
             [*before, f"./{os.path.basename(copied)}", *words],
-            limits(megabytes), who, cwd=os.path.dirname(copied))
+            alone(megabytes), who, cwd=os.path.dirname(copied))
     with child:
         try:
             assert child.stdin
