@@ -2,6 +2,7 @@
 docs/lists.md says of any document."""
 import io
 import json
+import os
 import threading
 import unittest
 import zipfile
@@ -135,6 +136,10 @@ class Whole(Large):
             with open(self.at("full.left"), "w") as left:
                 left.write(text)
             self.assertEqual(self.places(5 * SMALL, "pat", "p/e", **new), (201, ""))
+        # Nor does a pipe, and it keeps nobody waiting.
+        os.unlink(self.at("full.left"))
+        os.mkfifo(self.at("full.left"))
+        self.assertEqual(self.places(5 * SMALL, "pat", "p/e", **new), (201, ""))
 
     def test_a_denial_is_recorded_once(self) -> None:
         """As that of a small one: of the document, and by the room."""

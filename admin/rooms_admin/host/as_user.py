@@ -12,7 +12,7 @@ import tempfile
 from collections.abc import Callable, Iterator
 from contextlib import closing, contextmanager, suppress
 
-from . import commands, processes, tempdirs
+from . import commands, processes, safe, tempdirs
 
 Work = Callable[[], list[list[str]]]
 # Bytes: twice the largest document, and as much for the log.
@@ -83,14 +83,9 @@ def _of_fault(fault: OSError) -> list[str]:
     return [kinds.get(fault.errno or 0, "disk"), said]
 
 
-def _at_once(file: str, flags: int) -> int:
-    """A pipe keeps nobody waiting, and a link leads nowhere, whoever looks."""
-    return os.open(file, flags | os.O_NONBLOCK | os.O_NOFOLLOW)
-
-
 def kind(file: str) -> list[list[str]]:
     try:
-        with open(file, "rb", opener=_at_once) as source:
+        with open(file, "rb", opener=safe.at_once) as source:
             head = source.read(16)
     except OSError as fault:
         if fault.errno in (errno.EACCES, errno.EPERM):

@@ -55,6 +55,11 @@ def file_below(within: int, name: bytes | str) -> int:
         return os.open(f"/proc/self/fd/{handle}", os.O_RDONLY | os.O_CLOEXEC)
 
 
+def at_once(file: str, flags: int) -> int:
+    """Opens it: a pipe keeps nobody waiting, and a link leads nowhere, whoever looks."""
+    return os.open(file, flags | os.O_NONBLOCK | os.O_NOFOLLOW)
+
+
 def _is_own(seen: os.stat_result) -> bool:
     """Root's, or that of whoever runs this, and nobody else may write it."""
     return seen.st_uid in (0, os.geteuid()) and not seen.st_mode & 0o022

@@ -2,6 +2,8 @@
 import os
 import re
 
+from rooms_admin.host import safe
+
 from .answers import Stop
 
 _COUNT = re.compile(r"[0-9]{1,15}", re.ASCII)
@@ -27,7 +29,7 @@ class Space:
 
     def _read(self) -> int | None:
         try:
-            with open(self._left, encoding="ascii") as source:
+            with open(self._left, encoding="ascii", opener=safe.at_once) as source:
                 text = source.read(20).strip()
         except (OSError, ValueError):
             return None
