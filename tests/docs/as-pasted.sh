@@ -74,7 +74,7 @@ cp -L passwords before
 htpasswd -bB passwords bob secret 2>/dev/null
 chmod 640 root/var/lib/rooms-passwords/rooms.htpasswd
 paste_in "$(blocks people.md 'user remove bob' | head -n 1)"
-prints 'somebody leaves' "no password for bob any more, in $file" '- staff,bob' \
+prints 'somebody leaves' "no password for bob any more, in $file" '- sales,bob' '- staff,bob' \
   'groups 2, members 3' \
   'document bob staff 8 /letters/reply' 'folder alice staff /projects/bridge' 'A:fd:bob:r'
 same 'he has no password, and nobody else has another' passwords before

@@ -118,8 +118,9 @@ for at in "${!odd_users[@]}"; do
   name=${odd_users[at]}
   all_members
   paste_in "rooms-admin user remove '$name'"
-  sed -n '1p; / \/letters\/odd/p' "$work/out" >got
-  printf '%s\n' 'groups 1, members 11' "document $name staff 5 /letters/odd$at" >wanted
+  sed -n '1,2p; / \/letters\/odd/p' "$work/out" >got
+  printf '%s\n' "- staff,$name" 'groups 1, members 11' "document $name staff 5 /letters/odd$at" \
+    >wanted
   same "$name leaves" got wanted
   grep -vxF -e "staff,$name" members.csv >rest.csv
   members_are 'and nobody else' rest.csv
