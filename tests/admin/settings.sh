@@ -101,6 +101,21 @@ for where in none store; do
 done
 holds 'a folder that is there is no news' [ ! -s "$work/err" ]
 
+# Nor does a server start by a mistyped place, after the restart that the verb asks for.
+cp own.conf before
+for wrong in "FILE=$PWD/palce/F;no folder: $PWD/palce, of FILE in " \
+  "PROGRAM=$rooms.not;no program: $rooms.not, of "; do
+  ROOMS_RUN=$PWD/run "$repo/admin/rooms-admin" set --room "$PWD/own.conf" "${wrong%%;*}" \
+    >"$work/out" 2>"$work/err" </dev/null
+  status=$?
+  told "a mistyped ${wrong%%=*}" 2 "${wrong#*;}"
+  same "which isn't written" own.conf before
+done
+ROOMS_RUN=$PWD/run "$repo/admin/rooms-admin" set --room "$PWD/own.conf" "FILE=$PWD/place/E" \
+  >"$work/out" 2>"$work/err" </dev/null
+status=$?
+told 'a file that comes later' 0 "no file: $PWD/place/E isn't there"
+
 # Whoever reads the first lines alone ends nothing.
 mkdir -p unread/etc/rooms
 printf '%s\n' FILE=/F BACKUPS=/b KEEP=1 >unread/etc/rooms/office.conf

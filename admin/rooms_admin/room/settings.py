@@ -8,7 +8,7 @@ from dataclasses import dataclass, field, fields
 from typing import Any
 
 from ..host import locks
-from . import environment, keep as keeping
+from . import environment, keep as keeping, there
 from .names import is_host, is_user
 from ..cli.report import Refused
 
@@ -330,15 +330,10 @@ def room(word: str = "") -> Room:
     got["UNIT"] = got["UNIT"] or f"rooms@{name_of(path)}"
     read = given(Room, path, got)
     _need_pairs(path, got)
-    if not (os.path.isfile(got["PROGRAM"]) and os.access(got["PROGRAM"], os.X_OK)):
-        raise Refused(f"no program: {got['PROGRAM']}, of {path}, isn't there or can't be run")
-    folder = os.path.dirname(got["FILE"])
-    try:
-        seen = os.stat(folder)
-    except OSError:
-        raise Refused(f"no folder: {folder}, of FILE in {path}, isn't there") from None
+    there.need_program(path, got["PROGRAM"])
+    seen = there.folder(path, got["FILE"])
     if os.geteuid() not in (0, seen.st_uid):
-        raise Refused(f"not root: {folder} belongs to another user")
+        raise Refused(f"not root: {os.path.dirname(got['FILE'])} belongs to another user")
     return Room(conf=path, owner=seen.st_uid, group=seen.st_gid, **read)
 
 

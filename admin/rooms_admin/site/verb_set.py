@@ -8,7 +8,7 @@ from ..backup import copying
 from ..cli import alike, words
 from ..host import locks
 from ..host.changes import Changes, changes_asked_for
-from ..room import server, settings
+from ..room import server, settings, there
 from . import template, values
 from ..cli.report import Refused, say
 
@@ -60,6 +60,14 @@ def _need_unit(made: Changes, path: str, unit: str) -> None:
         raise Refused(f"no unit: systemd has no {unit}")
 
 
+def _need_places(path: str, wanted: dict[str, str]) -> None:
+    """By another program or folder the server wouldn't start again, and each verb would refuse."""
+    if "PROGRAM" in wanted:
+        there.need_program(path, wanted["PROGRAM"])
+    if "FILE" in wanted:
+        there.folder(path, wanted["FILE"])
+
+
 def _tell(root: str, path: str, changed: set[str], kind: type) -> None:
     """What has them count. Other settings are read by each run. What doesn't fit to those of other
     rooms, setup would refuse."""
@@ -91,6 +99,8 @@ def run(given: argparse.Namespace) -> int:
         text = template.read(made.root + path)
         settings.look_at(path, values.changed(text, wanted))
         _need_unit(made, path, wanted.get("UNIT", ""))
+        if not made.root:
+            _need_places(path, wanted)
         changed = {name for name, value in wanted.items()
                    if settings.value(made.root + path, name) != value}
         values.set_values(made, path, wanted)
@@ -100,6 +110,8 @@ def run(given: argparse.Namespace) -> int:
         _tell(made.root, path, changed, kind)
         if "BACKUPS" in changed and not made.root:
             _see_backups(path)
+    if "FILE" in changed and not made.root and not os.path.exists(wanted["FILE"]):
+        say(f"no file: {wanted['FILE']} isn't there, and without it the server doesn't start again")
     return 0
 
 
