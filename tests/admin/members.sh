@@ -223,6 +223,16 @@ setting PASSWORDS directory
 room_verb user remove dana
 says 'whose password is elsewhere' 0 "passwords of office aren't in its file: dana has to leave"
 setting PASSWORDS file
+# So are those of a room on a machine without its front end, where whoever has one isn't known.
+setting BEHIND yes
+room_verb user add fred --groups clerks
+says 'one of a front end' 2 'passwords elsewhere: those of office are given on the machine of its'
+room_verb user change fred --add clerks
+ended_well 'whose user comes into a group'
+printed 'as where they are in a file' '+ clerks,fred' 'groups 2, members 4'
+room_verb user change fred --drop clerks
+ended_well 'and goes out of it'
+setting BEHIND ''
 
 # A server that nobody can hold is stopped for a look, but for no look alone.
 mv "$stand/socket" socket.kept

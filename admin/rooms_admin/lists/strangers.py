@@ -21,7 +21,7 @@ def _users(room: Room, lists: bytes) -> set[str]:
 def told(room: Room, lists: bytes, lines: Iterable[str]) -> Iterator[str]:
     """What is to be said of these lines, each name once. Users whom a directory or sessions let in
     are known there alone. An entry without a mask is a date."""
-    users = _users(room, lists) if room.passwords == "file" else None
+    users = _users(room, lists) if room.has_passwords else None
     groups = {group for group, _ in dump.members(lists.split(b"\n"))}
     entries = [one for one in map(entry, lines) if one and one.mask]
     for name in sorted({one.user for one in entries if one.user}):

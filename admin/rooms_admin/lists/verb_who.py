@@ -42,7 +42,7 @@ def _tell_unknown(room: Room, place: Place, name: str) -> None:
     let in are known there alone."""
     has = (set(place.at[0]) - set(callers.CALLED)).union(
         *map(passwords.users, passwords.password_files(room.name)))
-    if room.passwords == "file" and name not in has:
+    if room.has_passwords and name not in has:
         say(f"nobody is called {name}{alike.meant(name, has)}")
 
 

@@ -102,7 +102,7 @@ def leave(asked: Leaving) -> int:
                 f"nothing and stands in no list{alike.meant(asked.name, has | _borne(lists))}")
             return 1
         _leave_groups(asked, room, dump.members(lists.split(b"\n")), newest_one)
-    if room.passwords != "file":
+    if not room.has_passwords:
         say(f"passwords of {asked.place} aren't in its file: {asked.name} has to leave where they "
             "are too")
     for one in found:

@@ -127,7 +127,7 @@ def add_all(place: str, room: Room | None, asked: Words, wanted: dict[str, set[s
 
 def _give_all(place: str, room: Room | None, asked: Words, wanted: dict[str, set[str]]) -> bool:
     """Whether somebody had none. Those of a directory have their passwords there."""
-    if room is not None and room.passwords != "file":
+    if room is not None and not room.has_passwords:
         return False
     has = set[str]().union(*map(offered.with_password, passwords.password_files(place)))
     new = sorted(set(wanted) - has)
@@ -164,7 +164,7 @@ def _need_user(place: str, room: Room, name: str, before: set[Pair]) -> None:
     one, mistyped."""
     there = {user for _, user in before}.union(
         *map(offered.with_password, passwords.password_files(place)))
-    if room.passwords == "file" and name not in there:
+    if room.has_passwords and name not in there:
         raise Refused(f"no user: {name} has no password and is in no group"
                       f"{alike.meant(name, there)}; somebody new joins by user add")
 
@@ -192,14 +192,14 @@ def _groups_known(room: Room | None) -> set[Pair]:
 
 def show_all(place: str, room: Room | None, is_json: bool) -> int:
     # What root's file has doesn't count where a directory or sessions are asked.
-    counts = room is None or room.passwords == "file" or room.lets_guests
+    counts = room is None or room.has_passwords or room.lets_guests
     files = passwords.password_files(place) if counts else []
     has = set[str]().union(*map(offered.with_password, files))
     first = {user for file in files for user, is_first in passwords.kinds(file).items() if is_first}
     groups_of: dict[str, list[str]] = {}
     for group, user in sorted(_groups_known(room)):
         groups_of.setdefault(user, []).append(group)
-    none = "no" if room is None or room.passwords == "file" else "elsewhere"
+    none = "no" if room is None or room.has_passwords else "elsewhere"
     found = [(user, none if user not in has else "first" if user in first else "yes",
               groups_of.get(user, [])) for user in sorted(has | set(groups_of))]
     if is_json:

@@ -52,7 +52,7 @@ def _look_at(room: Room, change: joining.Change, state: str, given: argparse.Nam
 
 
 def _need_users(room: Room, change: joining.Change) -> None:
-    if room.passwords != "file":
+    if not room.has_passwords:
         return
     there = {user for _, user in change.before}.union(
         *map(offered.with_password, passwords.password_files(published.name_of(room))))

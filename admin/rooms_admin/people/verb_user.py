@@ -106,11 +106,14 @@ def _need_file(place: str, room: Room | None, asked: users.Words) -> None:
     if room and at.lets_guests:
         if found := guests.spelled(guests.settings_of(room.conf), asked.name):
             raise Refused(f"two passwords: the directory has {found}, whose password is there")
-    elif at.passwords != "file":
+    elif at.behind:
+        raise Refused(f"passwords elsewhere: those of {place} are given on the machine of its "
+                      "front end; user change has groups alone")
+    elif not at.has_passwords:
         raise Refused(f"passwords elsewhere: those of {place} aren't in its file, by PASSWORDS in "
                       "its settings; user change has groups alone, and GUESTS=yes lets in guests "
                       "beside a directory")
-    if asked.is_first and at.passwords != "file":
+    if asked.is_first and not at.has_passwords:
         raise Refused(f"no own passwords: nobody could change a first one of {place}, whose "
                       "passwords a directory has")
 

@@ -178,6 +178,11 @@ class Reached:
         return bool(self.dates) or self.search
 
     @property
+    def has_passwords(self) -> bool:
+        """Whether they are in a file here, and not a directory's, or the front end's before it."""
+        return self.passwords == "file" and not self.behind
+
+    @property
     def lets_guests(self) -> bool:
         """Whether its file is asked for whom the directory doesn't let in."""
         return self.passwords == "directory" and self.guests
