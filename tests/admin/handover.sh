@@ -73,9 +73,9 @@ start_server F 100000 || return
 room=http://127.0.0.1:$port
 count=$(grep -ac '^\(document\|folder\) bob ' lists)
 hands --dry-run --as alice --room "$room" lists bob alice
-told 'what would be done' 1 "would be given $((count - 3)), of others by now 1, left out 2" \
-  "would: /bobs/plan\\ "
-holds 'each has a line' [ "$(grep -c '^would: ' "$work/out")" = $((count - 3)) ]
+told 'what would be done' 1 "would be given $((count - 4)), of others by now 1, left out 3" \
+  "would: /bobs/plan\\ " "/own: not given then: the right o is denied"
+holds 'each has a line' [ "$(grep -c '^would: ' "$work/out")" = $((count - 4)) ]
 stop_server
 dumped >after
 same 'changes nothing' after before

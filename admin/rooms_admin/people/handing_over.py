@@ -50,6 +50,8 @@ def give(room: str, caller: Caller, lists: str, giver: str, taker: str, dry: boo
         row = json.loads(got.body)
         if row["owner"] != giver:
             others += 1
+        elif dry and not asked.may(path, "o"):
+            asked.report(path, "not given then: the right o is denied")
         elif dry:
             handed += 1
             report.end_progress()

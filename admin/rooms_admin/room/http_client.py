@@ -3,6 +3,7 @@ import argparse
 import base64
 import getpass
 import http.client
+import json
 import os
 import re
 import ssl
@@ -187,8 +188,8 @@ class Client:
         return self._largest
 
     def ask(self, method: str, word: str, path: bytes, body: bytes | BinaryIO | None = None,
-            fields: dict[str, str] | None = None) -> Reply:
-        target = f"/{word}{names.encoded(path)}"
+            fields: dict[str, str] | None = None, query: str = "") -> Reply:
+        target = f"/{word}{names.encoded(path)}{query}"
         asked = urllib.request.Request(self.room + target, data=body, method=method,
                                        headers={**self.headers, **(fields or {})})
         opener = self._door if word.startswith("door/") else self._opener
@@ -221,6 +222,11 @@ class Client:
     def is_there(self, path: bytes) -> bool:
         """It needs no right but those to get there."""
         return self.ask("GET", "can", path).status == 200
+
+    def may(self, path: bytes, letter: str) -> bool:
+        """Whether whoever asks has this right there."""
+        got = self.ask("GET", "can", path, query=f"?{letter}")
+        return got.status == 200 and str(json.loads(got.body)[letter]).startswith("allowed")
 
     def report(self, name: bytes, why: str) -> None:
         """A line on standard error and in the log for what was not transferred."""
