@@ -330,6 +330,13 @@ class Guests(unittest.TestCase):
                 self.look(f"eve:x\n{name}:x\n", True)
         self.assertEqual(self.look("eve:x\ntim:x\n", True), [])
 
+    def test_what_takes_all_second_ones_away_is_pasted(self) -> None:
+        with self.assertRaises(Refused) as refused:
+            self.look("bob:x\neve:x\nalice:x\n", True)
+        self.assertTrue(str(refused.exception).endswith(
+            'here: for name in alice bob; do rooms-admin user remove "$name" --password '
+            "--room office; done"), refused.exception)
+
 
 class Words(unittest.TestCase):
     def typed(self, text: str) -> users.Words:

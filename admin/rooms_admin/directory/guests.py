@@ -2,6 +2,7 @@
 is asked after the directory. So nobody has one there whom the directory has, whether or not it lets
 them in: whoever leaves would go on by the file."""
 import os
+import shlex
 from collections.abc import Iterable
 
 from ..room import settings
@@ -44,7 +45,8 @@ def look(root: str, where: settings.Directory, rooms: Iterable[Place]) -> list[s
         both = sorted(user for user in users if user.lower() in names)
         if one.guests and both:
             raise Refused(f"two passwords: {', '.join(both)} of {one.name} are in the directory "
-                          f"too: rooms-admin user remove NAME --password --room {one.name}")
+                          f"too, and may keep none here: for name in {shlex.join(both)}; do "
+                          f'rooms-admin user remove "$name" --password --room {one.name}; done')
         if not one.guests and len(both) < len(users):
             told.append(f"{', '.join(sorted(users - set(both)))} of {one.name} can't sign in any "
                         "more, whom the directory hasn't: GUESTS=yes lets them in "
