@@ -9,6 +9,7 @@ export const DE_PERSON = {
   find: 'Wessen Zugriff?',
   can: (name) => `Was ${name} kann, soweit Sie es sehen dürfen:`,
   ifIn: (names) => `(falls in ${and(names)})`,
+  unlessByGroup: (words) => `${words}, außer durch eine Gruppe`,
   theirsThere: (words) => `das Eigene dort: ${words}`,
   places: 'An diesen Stellen',
   doneSomeOf: (done, whole) => `Erledigt an ${number(done)} von ${

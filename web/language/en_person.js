@@ -9,6 +9,7 @@ export const EN_PERSON = {
   find: 'Whose access?',
   can: (name) => `What ${name} can do, as far as you may see:`,
   ifIn: (names) => `(if in ${and(names)})`,
+  unlessByGroup: (words) => `${words}, unless by a group`,
   theirsThere: (words) => `what is theirs there: ${words}`,
   places: 'At these places',
   doneSomeOf: (done, whole) => `Done at ${number(done)} of ${count(whole, 'place', 'places')}.`,

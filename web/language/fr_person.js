@@ -9,6 +9,7 @@ export const FR_PERSON = {
   find: 'L’accès de qui ?',
   can: (name) => `Ce que ${name} peut faire, autant que vous pouvez le voir :`,
   ifIn: (names) => `(si dans ${and(names)})`,
+  unlessByGroup: (words) => `${words}, sauf par un groupe`,
   theirsThere: (words) => `ce qui leur appartient là : ${words}`,
   places: 'À ces endroits',
   doneSomeOf: (done, whole) => `Fait à ${number(done)} sur ${count(whole, 'endroit', 'endroits')}.`,

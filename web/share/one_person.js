@@ -37,6 +37,11 @@ function linesIn(said, state, who) {
   return { lines: all.filter(isMine), others: all.filter((one) => !isMine(one)) };
 }
 
+// Where it isn't known which groups they are in, a group may still let them in.
+const surelyAt = ({ asked }, one) => ({ ...one,
+  words: asked.isExact || one.words !== texts.outcome.keeps('none', one.kind, []) ? one.words
+    : texts.person.unlessByGroup(one.words) });
+
 // What they could do beside that, as it isn't known which groups they are in.
 function perhapsLines(said, state, alone) {
   const those = said.callers.filter((one) => one.groups.length > 0 && !said.asked.isExact
@@ -68,17 +73,17 @@ function answer(said, state, person, again) {
   const { unread } = belowOf(state);
   const act = (words, does) => button(words, () => does(state, person, found, again)
     .catch(tellFault), { class: 'small' });
-  const isOther = person.who !== state.me && found.lines.length > 0;
   return [element('p', {}, texts.person.can(person.name)),
-    element('ul', {}, places.map((one) => line(one)),
+    element('ul', {}, places.map((one) => line(surelyAt(said, one))),
       ownedAt(said, belowOf(state).nodes, caller, BEFORE).map(({ path, words }) =>
         line({ path, words: texts.person.theirsThere(words) }))),
     perhaps(perhapsLines(said, state, caller)),
     ...[lessWords(said.asked), wayWords(state), unread.length === 0 ? null
       : texts.outcome.unreadThere(unreadNames(unread, FEW))]
       .map((words) => words && element('p', { class: 'hint' }, words)),
-    isOther ? element('div', { class: 'actions' }, act(texts.person.takeOut, takeOut),
-      act(texts.person.standIn, standIn)) : null].filter(Boolean);
+    found.lines.length === 0 ? null : element('div', { class: 'actions' },
+      person.who === state.me ? null : act(texts.person.takeOut, takeOut),
+      act(texts.person.standIn, standIn))].filter(Boolean);
 }
 
 // Looks at all below, and then asks what they can do there.
