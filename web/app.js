@@ -139,7 +139,9 @@ for (const kind of ['dragover', 'drop']) {
 // A link to what is open shows it anew, as after a search in it.
 document.querySelector('header').addEventListener('click', ({ target }) => {
   const link = target instanceof Element && target.closest('a');
-  if (link && link.getAttribute('href') === (location.hash || '#/')) show();
+  if (!link || link.getAttribute('href') !== (location.hash || '#/')) return;
+  history.replaceState(null, '');
+  show();
 });
 document.getElementById('skip').addEventListener('click', (event) => {
   // The place follows the '#'.

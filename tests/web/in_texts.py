@@ -122,6 +122,30 @@ class InTexts:
             assert not alice.is_wider()
         self.alice.resize(1200, 900)
 
+    def back(self):
+        """Whoever comes back from what was found, or loads the page again, finds it again."""
+        alice = self.opened(says=told([PLAN]))
+        self.looked('notice')
+        alice.until(lambda: alice.all('.in-texts .object'), 'texts')
+        alice.click(alice.one('.in-texts .object'))
+        alice.until(lambda: alice.texts('h1') == ['Notice of June.pdf'], 'the document')
+        alice.driver.back()
+        alice.until(lambda: alice.texts('.in-texts .name') == ['Notice of June.pdf'], 'texts')
+        assert alice.script('return document.querySelector(arguments[0]).value', FIELD) == 'notice'
+        alice.until(lambda: len(alice.all('.found .object')) == 3, 'names')
+        alice.reload()
+        alice.until(lambda: len(alice.all('.found .object')) == 2, 'names')
+        # Once it is put away it doesn't come again.
+        alice.press('Back to the folder')
+        alice.until(lambda: 'letter.txt' in alice.names(), 'the rows')
+        alice.press('deep')
+        alice.until(lambda: 'notice.txt' in alice.names(), 'the folder')
+        alice.driver.back()
+        alice.until(lambda: 'letter.txt' in alice.names(), 'the rows')
+        alice.settled()
+        assert not alice.all('.found-of')
+        alice.until(lambda: alice.script('return history.state') is None, 'nothing is kept')
+
     def by_keys(self):
         """From the field down through names and texts, and back by Escape."""
         alice = self.opened(says=told([PLAN, {**PLAN, 'path': '/deep/other.pdf'}]))
@@ -223,7 +247,7 @@ class InTexts:
 
 
 PLAY = [('where no texts are searched', InTexts.without), ('names and texts', InTexts.both),
-        ('names that are read', InTexts.readable),
+        ('names that are read', InTexts.readable), ('the way back', InTexts.back),
         ('by keys', InTexts.by_keys), ('what is read aloud', InTexts.read_aloud),
         ('what is hostile', InTexts.as_text), ('a place by a press', InTexts.later),
         ('nothing is found', InTexts.none),

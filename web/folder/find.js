@@ -58,6 +58,10 @@ function shown({ found, all, unlisted }, { text, top, field, isBusy, below }, ba
   return made;
 }
 
+// What was looked for is kept with this step of the browser's way back, and with nothing else.
+const keep = (find) => history.replaceState(find === null ? null : { find }, '');
+const kept = () => history.state?.find ?? null;
+
 // A search from the folder 'top' on: what was typed in 'field' is looked for, and shown in 'place'.
 class Finder {
   constructor(top, field, { place, here, redraw, searches }) {
@@ -68,6 +72,7 @@ class Finder {
     this.redraw = redraw;
     this.searches = searches;
     this.looks = 0;
+    this.isNew = true;
     this.press = button(texts.find.find, () => this.start(), { class: 'small find' });
   }
 
@@ -75,6 +80,16 @@ class Finder {
     this.field.value = '';
     this.field.dispatchEvent(new Event('input'));
     this.field.focus();
+  }
+
+  // Whoever comes back here, as from what was found, or loads the page again, finds it again.
+  again() {
+    const text = this.isNew ? kept() : null;
+    this.isNew = false;
+    if (text === null || this.field.value !== '') return;
+    this.field.value = text;
+    this.field.dispatchEvent(new Event('input'));
+    this.start();
   }
 
   start() {
@@ -91,6 +106,7 @@ class Finder {
   async find(text) {
     this.looks += 1;
     const look = this.looks;
+    keep(text);
     const isWanted = () => look === this.looks && this.place.isConnected;
     const below = this.searches() ? element('div', { class: 'found-in-texts' }) : null;
     const draw = (told, isBusy) => {
@@ -123,7 +139,10 @@ class Finder {
 // 'searches' says whether texts are searched.
 export function finder(top, field, shownBy) {
   const made = new Finder(top, field, shownBy);
-  field.addEventListener('input', () => { made.looks += 1; });
+  field.addEventListener('input', () => {
+    made.looks += 1;
+    if (kept() !== null) keep(null);
+  });
   field.addEventListener('keydown', (event) => made.take(event));
   return made;
 }

@@ -51,7 +51,7 @@ function tools(look, does, redraw, found) {
   const finding = finder(found.path, filter, { ...found, redraw });
   const shown = element('div', { class: 'tools' },
     element('div', { class: 'finding' }, filter, finding.press), chosen);
-  return { shown, tell, filter, offer };
+  return { shown, tell, filter, offer, again: () => finding.again() };
 }
 
 // Where the focus is in the rows: {name, act, index}, or null.
@@ -210,6 +210,7 @@ class FolderView {
       fillRows(this.body, this.look, api.nameOf);
       markAllClosed(this.body, closed, api.nameOf);
     }
+    this.tools.again();
   }
 
   // What can't be seen from the top, below its list.
