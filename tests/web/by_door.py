@@ -168,12 +168,10 @@ class ByDoor:
         alice.until(lambda: alice.all('.holders'), 'the panel')
         self.pick('yan', 'kim', 'lea')
         assert alice.texts('.chosen-ones .name') == ['yan', 'kim', 'lea']
-        assert 'yan, kim and lea can then read “2026” and what is in it.' in \
-            alice.texts('.said')[0], alice.texts('.said')
+        alice.says('yan, kim and lea can then read “2026” and what is in it.', css='.said')
         alice.press('Not kim')
-        alice.until(lambda: 'yan and lea can then' in alice.texts('.said')[0], 'the two')
-        assert 'Let lea and yan pass through “All documents” and “letters”' in \
-            alice.texts('.adding')[0], alice.texts('.adding')
+        alice.says('yan and lea can then', css='.said')
+        alice.says('Let lea and yan pass through “All documents” and “letters”', css='.adding')
         alice.until(lambda: alice.script(
             "return !document.querySelector('.adding .primary').disabled"), 'Share')
         alice.press('Share', '.adding')
