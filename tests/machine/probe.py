@@ -63,7 +63,7 @@ def main():
                  "/var/cache/rooms-texts-copies/office"):
         tries(f"list {path}", lambda path=path: listed(path))
     for path in ("/etc", "/etc/nginx", "/etc/rooms", "/usr", "/run", "/run/rooms-full",
-                 "/run/rooms/invoices", "/var/lib",
+                 "/run/rooms/invoices", "/run/rooms-server/office", "/run/lock", "/var/lib",
                  "/var/lib/rooms", "/var/lib/rooms-web", "/var/lib/rooms-passwords", "/var/backups",
                  "/var/cache/rooms-nights", "/run/rooms-nights", "/var/tmp", "/dev/shm",
                  "/var/lib/rooms-told", "/var/lib/rooms-changes", "/var/lib/rooms-changes/office",
@@ -75,6 +75,7 @@ def main():
     tries("have nginx write elsewhere", lambda: os.symlink("/var/log/nginx/access.log", link))
     tries("have nginx wait", lambda: os.mkfifo(f"{link}.pipe"))
     for path in ("/run/rooms/office/socket", "/run/rooms/invoices/socket",
+                 "/run/rooms-server/office/socket", "/run/rooms-server/invoices/socket",
                  "/run/rooms-front/passwords.sock", "/run/rooms-own-password/socket",
                  "/run/rooms-nights/socket", "/run/rooms-earlier/socket",
                  "/run/rooms-picture/socket", "/run/rooms-texts/socket",

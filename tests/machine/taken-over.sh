@@ -66,7 +66,7 @@ probed 'in the place of a watch' rooms-full@office \
 # It is the server itself: nobody listens in its place.
 probed 'in the place of a server' rooms@office \
   'read /etc/rooms/office.conf' 'read /etc/nginx/nginx.conf' 'list /var/lib/rooms' \
-  'list /var/log/nginx' 'write /var/lib/rooms' 'write /var/tmp'
+  'list /var/log/nginx' 'write /run/rooms-server/office' 'write /var/lib/rooms' 'write /var/tmp'
 # What sshd, a mail server or systemd look for in a home would be obeyed outside of the unit: no
 # user has one, also where a version before gave one to a server that runs.
 does 'where users were at home' 'systemctl start rooms@invoices &&
@@ -84,8 +84,9 @@ probed 'in the place of who waits' rooms-wait@office \
   'write /var/tmp' 'ask /run/rooms/office/socket'
 probed 'in the place of what sends mail' rooms-tell@probe \
   'read /etc/rooms/office.conf' 'read /etc/nginx/nginx.conf' 'list /var/log/nginx' \
-  'write /var/tmp' 'write /dev/shm' 'make a folder' 'ask /run/dbus/system_bus_socket' \
-  'ask 127.0.0.1:80' 'make a file that runs as its owner' 'a namespace' 'see processes of others'
+  'write /run/lock' 'write /var/tmp' 'write /dev/shm' 'make a folder' \
+  'ask /run/dbus/system_bus_socket' 'ask 127.0.0.1:80' 'make a file that runs as its owner' \
+  'a namespace' 'see processes of others'
 # Apache's processes that answer: nginx believes what they say of a password or a session.
 becomes=rooms-passwords
 by_apache=('read /etc/rooms/office.conf' 'read /etc/nginx/nginx.conf' 'list /var/log/nginx'
