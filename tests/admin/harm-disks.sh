@@ -212,3 +212,25 @@ END
 else
   skip 'a disk that loses what it took' 'no mkfs.ext4, or no leave to mount'
 fi
+# One that goes away once the copy is there: what lies below its mount point stays.
+mkdir away
+setting BACKUPS "$PWD/away"
+setting KEEP 0
+for turn in 1 2; do
+  sleep 1
+  night
+done
+cp -a away/conf below
+if mount -t tmpfs -o mode=700 none away 2>/dev/null; then
+  cp -a below away/conf
+  setting KEEP 2
+  printf "echo \"umount -l '%s'\" >'%s'\n" "$PWD/away" "$stand/at-mv" >"$stand/at-mv"
+  sleep 1
+  night
+  says 'a disk that goes away' 1 "isn't there any more"
+  holds 'it has gone' eval '! mountpoint -q away'
+  holds "what lies below it stays: $(ls away/conf)" [ "$(ls away/conf | wc -l)" = 2 ]
+  setting KEEP 0
+else
+  skip 'a disk that goes away' 'no leave to mount'
+fi

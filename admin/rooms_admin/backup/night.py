@@ -205,12 +205,15 @@ class Night:
         """verify doesn't look at records. Where one of tonight's can't be read, an older backup may
         be the last that has it whole."""
         jumps = backups.jump(before)
-        for text in [*before.wrong, *([jumps] if jumps else [])]:
+        # The disk may have gone away since, and other backups may lie below its mount point.
+        is_gone = not os.path.exists(os.path.join(self.kept, self.room.base))
+        for text in [*before.wrong, *([jumps] if jumps else []),
+                     *([f"{self.kept} isn't there any more"] if is_gone else [])]:
             self.failed(f"no older backup is removed: {text}")
         if self.unread and self.room.keep.nights:
             self.failed("a record in the copy cannot be read, so no older backup is removed: one "
                         "may have it whole")
-        if not self.room.keep.nights or before.wrong or jumps or self.unread:
+        if not self.room.keep.nights or before.wrong or jumps or is_gone or self.unread:
             return
         gone = tidying.beyond(before.backups, self.room.keep, self.date)
         if gone and (ahead := tidying.ahead(before.backups, self.room.keep, self.date)):
