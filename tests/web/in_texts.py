@@ -13,10 +13,15 @@ from selenium.webdriver.common.keys import Keys
 
 FIELD = '.tools input'
 # Whether texts are searched, and what of them is told: 'window.says' is [status, body], and while
-# 'window.holds' nothing is answered. 'window.asked' has the targets.
+# 'window.holds' nothing is answered. 'window.asked' has the targets, 'window.given' is what /mine
+# has.
 STUB = """
-Object.assign(window, { asked: [], says: arguments[1], searches: arguments[0], holds: false });
+Object.assign(window, { asked: [], says: arguments[1], searches: arguments[0], given: arguments[2],
+                        holds: false });
 window.fetch = ((real) => async (target, ...rest) => {
+  if (target === 'mine' && window.given) {
+    return Response.json({ made: new Date().toISOString(), managers: [], places: window.given });
+  }
   if (/^door[/]search[/]/.test(target)) {
     window.asked.push(target);
     if (window.holds) await new Promise((go) => { window.go = go; });
@@ -58,11 +63,11 @@ class InTexts:
         for path in ('/letter.txt', '/deep/er/Notice%20of%20June.pdf', '/deep/notice.txt'):
             self.ask('PUT', f'/doc{path}', b'x')
 
-    def opened(self, searches=True, says=None):
+    def opened(self, searches=True, says=None, given=None):
         """The folder, as it is where texts are searched or not."""
         alice = self.alice
         alice.open('#/deep')
-        alice.script(STUB, searches, says or told([]))
+        alice.script(STUB, searches, says or told([]), given)
         alice.script("location.hash = '#/'")
         alice.until(lambda: 'letter.txt' in alice.names(), 'the rows')
         words = 'Find in names and texts' if searches else 'Filter by name'
@@ -121,6 +126,27 @@ class InTexts:
             assert text['width'] > width * 0.7, (width, text)
             assert not alice.is_wider()
         self.alice.resize(1200, 900)
+
+    def given(self):
+        """What was given to me in a folder that doesn't show it is found from above too."""
+        for path in ('/closed', '/closed/bills', '/closed/other'):
+            self.ask('POST', f'/folder{path}')
+        self.ask('PUT', '/doc/closed/bills/Bill%20of%20June.txt', b'x')
+        self.ask('PUT', '/dacl/closed/bills', b'list:ap\nA:fd:alice:rwaxDdtcC\n')
+        self.ask('PUT', '/dacl/closed', b'list:ap\nA:fd:alice:xcCDd\n')
+        places = [{'path': f'/closed/{name}', 'kind': 'folder', 'rights': 'rxtc'}
+                  for name in ('bills', 'gone')]
+        alice = self.opened(says=told([PLAN]), given=places)
+        self.looked('bill')
+        alice.until(lambda: alice.texts('.found:not(.in-texts) .name') == [
+            'bills', 'Bill of June.txt'], 'what was given')
+        alice.until(lambda: alice.texts('.in-texts .name') == ['Notice of June.pdf'], 'texts')
+        assert alice.script('return window.asked') == [
+            f'door/search/{place}?bill' for place in ('', 'closed/bills', 'closed/gone')]
+        self.ask('PUT', '/dacl/closed', b'list:a\n')
+        for path in ('/closed/bills/Bill%20of%20June.txt', '/closed/bills', '/closed/other',
+                     '/closed'):
+            self.ask('DELETE', f'/object{path}')
 
     def back(self):
         """Whoever comes back from what was found, or loads the page again, finds it again."""
@@ -248,6 +274,7 @@ class InTexts:
 
 PLAY = [('where no texts are searched', InTexts.without), ('names and texts', InTexts.both),
         ('names that are read', InTexts.readable), ('the way back', InTexts.back),
+        ('what was given further down', InTexts.given),
         ('by keys', InTexts.by_keys), ('what is read aloud', InTexts.read_aloud),
         ('what is hostile', InTexts.as_text), ('a place by a press', InTexts.later),
         ('nothing is found', InTexts.none),

@@ -4,7 +4,7 @@ import * as api from '../net/api.js';
 import { announce } from '../ui/announce.js';
 import { button, element, icon, nameText } from '../ui/dom.js';
 import { texts } from '../language/language.js';
-import { findBelow } from '../net/door.js';
+import { findAll } from './given.js';
 import { showInTexts } from './in_texts.js';
 import { linkTo } from '../ui/links.js';
 import { tellFault, waitFor } from '../ui/messages.js';
@@ -117,7 +117,7 @@ class Finder {
     draw({ found: this.here(), all: false, unlisted: [] }, true);
     if (below) showInTexts(below, this.top, text, isWanted);
     try {
-      const told = await waitFor(findBelow(this.top, text));
+      const told = await waitFor(findAll(this.top, text));
       if (isWanted()) draw(told, false);
     } catch (fault) {
       if (isWanted()) this.redraw();

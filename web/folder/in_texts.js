@@ -5,6 +5,7 @@ import * as api from '../net/api.js';
 import { announce } from '../ui/announce.js';
 import { button, element, icon, nameText } from '../ui/dom.js';
 import { texts } from '../language/language.js';
+import { MOST_SHOWN, searchAll } from './given.js';
 import { searchBelow } from '../net/door.js';
 import { linkTo } from '../ui/links.js';
 import { tellFault, waitFor } from '../ui/messages.js';
@@ -50,9 +51,7 @@ function toldOf({ found, all, unread }) {
   return all && unread === 0 ? texts.search.none : texts.search.noneSoFar;
 }
 
-// So many are shown at most.
-const MOST = 50;
-const restOf = ({ found }) => (found.length < MOST ? texts.search.notAll : texts.search.more);
+const restOf = ({ found }) => (found.length < MOST_SHOWN ? texts.search.notAll : texts.search.more);
 
 const shown = (told, top, words) => [
   element('h2', {}, texts.search.texts(momentWords(told.night))),
@@ -74,7 +73,7 @@ export async function showInTexts(box, top, text, isWanted) {
   if (!isSearched(text)) return draw([hint(texts.search.short)]);
   draw([hint(texts.search.busy)]);
   try {
-    const told = await waitFor(searchBelow(top, text));
+    const told = await waitFor(searchAll(top, text));
     if (!isWanted()) return null;
     draw(shown(told, top, text));
     announce('good', toldOf(told));
