@@ -67,6 +67,10 @@ prints 'who can have changed it' "/  alice  Co  by A:fd:alice:$ALL" \
   "/projects  alice  Co  remove  by A:fdI:alice:$ALL" \
   '/projects  bob  remove  by A:fdg:staff:rwaxtc of /' \
   'group staff: a.bob, bob'
+date='A:g:until.2027-05-31.read.u.eve@alice:'
+sed -i "/^A:fd:eve:rxtc\$/a $date" "$night/lists.txt"
+paste_in "$(blocks people.md ':until')"
+prints 'whose access ends' 'folder alice staff /projects/bridge' "$date"
 rm -r "$night"
 holds 'and what is done then' grep -qx "rooms-admin user remove 'eve' --password" due
 

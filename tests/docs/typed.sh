@@ -401,6 +401,8 @@ for text in './rooms_' 'cp -a /mnt' 'do rooms-admin restore' reload-or-restart m
 done >>typed
 # What would come of a list, by last night's: docs/pasted-back pastes it.
 block_of docs/lists 'rooms-admin would set' >>typed
+# Whose access ends, by last night's too: docs/as-pasted pastes it.
+block_of docs/people ':until' >>typed
 # Blocks of several machines: nginx/machines, machine/new-machine and admin/standby paste them.
 for text in 'certificate --machine' 'add --behind' 'add --on' \
   -mmin 'start "rooms-nightly@' 'now "rooms@$room"'; do
