@@ -63,6 +63,32 @@ flooded 'half requests from one address' 192.0.2.33 192.0.2.17 192.0.2.18
 flooded 'half requests from one network of IPv6' '[2001:db8:2::1]' 2001:db8:1::1 \
   2001:db8:1::{2,3,4,5}
 
+# Connections that end at once: each stays for two minutes in the kernel's table of all, which
+# has 65,536 of them or more.
+cat >short.py <<'END'
+import contextlib
+import socket
+import time
+
+ends, made = time.monotonic() + 8, 0
+while time.monotonic() < ends:
+    with contextlib.suppress(OSError), socket.socket(socket.AF_INET6) as one:
+        one.settimeout(0.2)
+        one.bind((f"2001:db8:1::{2 + made % 4}", 0))
+        made += 1
+        one.connect(("2001:db8:1::1", 80))
+END
+shorts=()
+for each in 1 2 3; do
+  nsenter -t "$attacker" -n python3 short.py &
+  shorts+=($!)
+done
+wait "${shorts[@]}"
+sleep 1
+does 'connections that end at once' 'cat /proc/sys/net/netfilter/nf_conntrack_count'
+holds "few of them stay: $(cat "$work/out")" [ "$(cat "$work/out")" -lt 12000 ]
+holds 'another one gets in' gets_in 192.0.2.33 2
+
 # Accounts of the machine itself, which have many addresses there: all together have as many as one.
 cp "$here/machine/flood.py" "$machine/usr/local/lib/flood.py"
 nsenter -t "$first" --all setpriv --reuid=nobody --regid=nogroup --clear-groups \
