@@ -40,6 +40,8 @@ Promise.all(modules).then(([{ readEntry, printEntry }, { passedDown }, words, si
     equal(`signs of ${JSON.stringify(name)}`, signs.marked(name), wanted);
   }
 
+  // A user with a session has no password here.
+  has('signed out', words.sentenceOf({ status: 401, body: null }), 'session ended', 'sign in');
   const tried = words.sentenceOf({ status: 429, body: null });
   has('too many tries', tried, 'too many passwords were tried', 'Wait a minute');
 

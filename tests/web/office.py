@@ -133,7 +133,7 @@ class Office(Documents, Dropping, Handling, Readers, Lists, Warned, Recommended,
         # Until then nginx remembers the old one.
         time.sleep(12)
         bob.press('Report 2.txt')
-        bob.says('Your password isn’t accepted any more', 'sign in')
+        bob.says('You aren’t signed in any more', 'password was changed', 'sign in')
 
     def no_room(self):
         os.kill(self.server, signal.SIGKILL)

@@ -55,8 +55,8 @@ const STATUSES = {
     + 'nicht: Sehen Sie nach, und wiederholen Sie sie, wenn nicht.',
   unreadable: 'Die Datei kann auf diesem Computer nicht mehr gelesen werden: Sie wurde geändert, '
     + 'verschoben oder entfernt, nachdem sie ausgewählt wurde. Wählen Sie sie erneut aus.',
-  401: 'Ihr Kennwort wird nicht mehr angenommen; vielleicht wurde es geändert. Laden Sie die Seite '
-    + 'neu, und melden Sie sich mit dem neuen an.',
+  401: 'Sie sind nicht mehr angemeldet: Ihre Sitzung ist zu Ende, oder Ihr Kennwort wurde '
+    + 'geändert. Laden Sie die Seite neu, und melden Sie sich an.',
   405: 'Der Raum kennt diese Anfrage nicht. Laden Sie die Seite neu.',
   429: 'Es war zu viel auf einmal, oder es wurden zu viele Kennwörter versucht. Warten Sie eine '
     + 'Minute, und laden Sie dann die Seite neu.',

@@ -47,8 +47,8 @@ const STATUSES = {
     + 'repeat it if it wasn’t.',
   unreadable: 'The file can’t be read on this computer any more: it was changed, moved or removed '
     + 'after it was chosen. Choose it again.',
-  401: 'Your password isn’t accepted any more; it may have been changed. Load the page again and '
-    + 'sign in with the new one.',
+  401: 'You aren’t signed in any more: your session ended, or your password was changed. Load the '
+    + 'page again and sign in.',
   405: 'The room doesn’t know this request. Load the page again.',
   429: 'Too much was asked for at once, or too many passwords were tried. Wait a minute, then load '
     + 'the page again.',

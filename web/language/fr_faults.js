@@ -55,8 +55,8 @@ const STATUSES = {
     + 'vérifiez, et répétez-la si ce n’est pas le cas.',
   unreadable: 'Le fichier ne peut plus être lu sur cet ordinateur : il a été modifié, déplacé ou '
     + 'supprimé après avoir été choisi. Choisissez-le de nouveau.',
-  401: 'Votre mot de passe n’est plus accepté ; il a peut-être été changé. Rechargez la page et '
-    + 'connectez-vous avec le nouveau.',
+  401: 'Vous n’êtes plus connecté : votre session est terminée, ou votre mot de passe a été '
+    + 'changé. Rechargez la page et connectez-vous.',
   405: 'La salle ne connaît pas cette demande. Rechargez la page.',
   429: 'C’était trop à la fois, ou trop de mots de passe ont été essayés. Attendez une minute, '
     + 'puis rechargez la page.',
