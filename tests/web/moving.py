@@ -86,7 +86,7 @@ class Moving:
         alice.press('bin', 'dialog .chooser')
         alice.until(lambda: 'bin' in alice.one('dialog .where').text, 'the folder')
         alice.press('Move it', 'dialog')
-        alice.says('It isn’t known who can get at it there',
+        alice.says('It isn’t known who can get at it there', 'Move to “/shared/bin”: one.',
                    'It isn’t known who could do more there: '
                    'you may not read the list of “/shared/bin”.', css='dialog')
         alice.press('Cancel', 'dialog')

@@ -6,7 +6,8 @@ import { texts } from '../language/language.js';
 import { movedWords } from './moved.js';
 import { form, showDialog, waitFor } from '../ui/messages.js';
 import { sorted } from './sorting.js';
-import { nameFault, sentenceOf } from '../text/words.js';
+import { shortened } from '../text/who_is.js';
+import { isolated, nameFault, placeWords, sentenceOf } from '../text/words.js';
 import { noAnswerWords } from '../text/would_words.js';
 
 // Goes from folder to folder. 'chosen.path' is the one that is looked at, which 'onLook' is told,
@@ -81,11 +82,14 @@ const folded = (told) => (told.length === 0 ? null : element('details', {},
 const unanswered = (fault) => ({ title: texts.moving.unanswered, perhaps: [], isKnown: false,
   warned: [{ kind: 'unsure', text: noAnswerWords(fault) }] });
 
-// Whether these may go into the folder, after a question if more people could then get at them.
+// Whether these may go into the folder, after a question if more people could then get at them. By
+// then another folder may be shown, so it says what is to go, and where.
 export async function accepted(objects, folder) {
   const told = await waitFor(movedWords(objects, folder)).catch(unanswered);
   if (told === null || told.warned.length + told.perhaps.length === 0) return told !== null;
   const answer = await showDialog(told.title, (finish) => [
+    element('p', {}, texts.moving.ofThese(shortened(objects.map(({ path }) =>
+      isolated(api.nameOf(path)))), placeWords(folder))),
     element('div', {}, told.warned.length === 0 ? null : warnings(told.warned),
       folded(told.perhaps)),
     element('div', { class: 'actions' },

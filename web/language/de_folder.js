@@ -142,6 +142,7 @@ export const DE_MOVING = {
   allTheSame: 'Trotzdem verschieben',
   now: (name, place) => `${name} ist jetzt ${place}.`,
   to: (place) => `Nach ${place} verschieben`,
+  ofThese: (names, place) => `Nach ${place} verschieben: ${and(names)}.`,
   movedSomeOf: (done, whole) => `${number(done)} von ${number(whole)} verschoben`,
   moved: (many, place) => `${objects(many)} nach ${place} verschoben.`,
   stopped: (many) => `Angehalten. Nicht verschoben: ${objects(many)}.`,

@@ -141,6 +141,7 @@ export const EN_MOVING = {
   allTheSame: 'Move all the same',
   now: (name, place) => `${name} is now ${place}.`,
   to: (place) => `Move to ${place}`,
+  ofThese: (names, place) => `Move to ${place}: ${and(names)}.`,
   movedSomeOf: (done, whole) => `${number(done)} of ${number(whole)} moved`,
   moved: (many, place) => `${objects(many)} moved to ${place}.`,
   stopped: (many) => `Stopped. Not moved: ${objects(many)}.`,

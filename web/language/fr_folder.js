@@ -144,6 +144,7 @@ export const FR_MOVING = {
   allTheSame: 'Déplacer quand même',
   now: (name, place) => `${name} est maintenant ${place}.`,
   to: (place) => `Déplacer vers ${place}`,
+  ofThese: (names, place) => `Déplacer vers ${place} : ${and(names)}.`,
   movedSomeOf: (done, whole) =>
     `${number(done)} sur ${number(whole)} ${done < 2 ? 'déplacé' : 'déplacés'}`,
   moved: (many, place) => `${count(many, 'objet déplacé', 'objets déplacés')} vers ${place}.`,
