@@ -18,7 +18,8 @@ import unittest
 ADMIN = os.path.join(os.path.dirname(os.path.abspath(__file__)), "..", "..", "admin")
 sys.path.insert(0, ADMIN)
 
-from rooms_admin.host import as_user, commands, handed_on, locks, waiting  # noqa: E402
+from rooms_admin.host import (  # noqa: E402
+    as_user, commands, handed_on, locks, processes, waiting)
 from rooms_admin.room import program  # noqa: E402
 
 OOM = "/proc/self/oom_score_adj"
@@ -94,6 +95,11 @@ class Sockets(unittest.TestCase):
             for _, _, said in (program.on_copy(room, f"{folder}/program", ["verify"]),
                                program.run(room, ["groups"]), program.on_text(room, "would", b"")):
                 self.assertRegex(said, r"\nPermissionError: ")
+
+    def test_nor_does_another_make_folders(self) -> None:
+        with commands.started(["mkdir", "x"], processes.make_no_folders,
+                              commands.Who(65534, 65534), cwd="/tmp") as one:
+            self.assertIn("Operation not permitted", one.communicate()[1].decode())
 
     def test_nor_does_a_look_as_its_user(self) -> None:
         def look() -> list[list[str]]:

@@ -15,14 +15,33 @@ _ENDS_WITH_PARENT, _GETS_ORPHANS, _AMBIENT, _CLEAR_ALL = 1, 36, 47, 4
 _LATE, _AT_MOST, _SET_TURN = 29, 50_000, 251
 # A filter of calls, as linux/filter.h and linux/seccomp.h have it: an operation, where it goes on
 # if that is so and if not, and a number. On the one processor for which there is a package it
-# refuses to make a socket, or a ring by which one could be made, and calls in the form of another.
+# refuses some calls, and all in the form of another one.
 _NO_MORE_RIGHTS, _SET_FILTER, _BY_ROWS = 38, 22, 2
 _LOAD, _IS, _IS_FROM, _RETURN = 0x20, 0x15, 0x35, 0x06
-_ROWS = ((_LOAD, 0, 0, 4), (_IS, 0, 5, 0xC000003E), (_LOAD, 0, 0, 0), (_IS_FROM, 3, 0, 1 << 30),
-         (_IS, 2, 0, 41), (_IS, 1, 0, 425), (_RETURN, 0, 0, 0x7FFF0000), (_RETURN, 0, 0, 0x50001))
-_WRITTEN = ctypes.create_string_buffer(b"".join(struct.pack("=HBBI", *row) for row in _ROWS))
-_FILTER = ctypes.create_string_buffer(
-    struct.pack("@HP", len(_ROWS), ctypes.addressof(_WRITTEN)))
+# What makes sockets, folders, and a ring by which either could be made.
+_SOCKETS, _FOLDERS, _RING = (41,), (83, 258), 425
+
+
+def _refusing(*calls: int) -> "ctypes.Array[ctypes.c_char]":
+    count = len(calls)
+    rows = [(_LOAD, 0, 0, 4), (_IS, 0, count + 3, 0xC000003E), (_LOAD, 0, 0, 0),
+            (_IS_FROM, count + 1, 0, 1 << 30),
+            *((_IS, count - at, 0, call) for at, call in enumerate(calls)),
+            (_RETURN, 0, 0, 0x7FFF0000), (_RETURN, 0, 0, 0x50001)]
+    written = ctypes.create_string_buffer(b"".join(struct.pack("=HBBI", *row) for row in rows))
+    _KEPT.append(written)
+    return ctypes.create_string_buffer(struct.pack("@HP", len(rows), ctypes.addressof(written)))
+
+
+_KEPT: list[object] = []
+_IS_THAT_ONE = platform.machine() == "x86_64"
+_WITHOUT_SOCKETS, _WITHOUT_FOLDERS = (_refusing(*calls, _RING) for calls in (_SOCKETS, _FOLDERS))
+
+
+def _refuse(calls: "ctypes.Array[ctypes.c_char]") -> None:
+    if _IS_THAT_ONE:
+        _LIBC.prctl(_NO_MORE_RIGHTS, 1, 0, 0, 0)
+        _LIBC.prctl(_SET_FILTER, _BY_ROWS, calls)
 
 
 def end_with_parent() -> None:
@@ -38,9 +57,13 @@ def hand_on_no_right() -> None:
 def reach_nobody() -> None:
     """For a child that reads what somebody else has made, and which that might take over: it makes
     no connection, to another machine or to a service of this one."""
-    if platform.machine() == "x86_64":
-        _LIBC.prctl(_NO_MORE_RIGHTS, 1, 0, 0, 0)
-        _LIBC.prctl(_SET_FILTER, _BY_ROWS, _FILTER)
+    _refuse(_WITHOUT_SOCKETS)
+
+
+def make_no_folders() -> None:
+    """For a child of a unit's that somebody might take over: deploy/systemd/rooms@.service says
+    why."""
+    _refuse(_WITHOUT_FOLDERS)
 
 
 def wait_and_read_as_others() -> None:

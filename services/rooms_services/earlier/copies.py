@@ -89,6 +89,7 @@ def _before(megabytes: int) -> Callable[[], None]:
     def before() -> None:
         less()
         processes.hand_on_no_right()
+        processes.make_no_folders()
     return before
 
 
