@@ -202,6 +202,7 @@ inside 'rooms-admin add more dora staff'
 holds 'no room is added to it' [ "$status" = 2 -a ! -e "$machine/etc/rooms/more.conf" ]
 does 'the new one in its place' \
   'cd /etc/nginx/sites-available && mv rooms.new rooms && rooms-admin setup && nginx -t -q'
+holds 'is read by nginx' grep -qx 'systemctl reload nginx' "$work/out"
 second 'nothing else has changed'
 
 # An upgrade to the same form.

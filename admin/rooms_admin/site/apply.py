@@ -87,9 +87,10 @@ def show(made: Changes) -> bool:
     if is_edited:
         password_files.leave(root, wanted)
     start = template.start_page(wanted).encode(errors="surrogateescape")
+    # Also of what somebody puts into the edited one's place.
+    is_unread = _is_unread(made)
     if is_edited:
         return _show_edited(made, wanted, start)
-    is_unread = _is_unread(made)
     count = made.count
     gone = password_files.move(made, wanted)
     text = template.render(template.template("site.conf.in"), wanted)
