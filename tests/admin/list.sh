@@ -46,6 +46,23 @@ printed 'with what comes from above' list:a A:fd:bob:rxtc "A:fdI:alice:$ALL"
 sets $'list:a\nA:fd:bob:rxtc' /letters
 says 'the same again' 0 'nothing to change'
 stops_are 'stops nothing' 0
+# What comes from above is not set here, whatever is sent of it.
+sets $'# as it was shown\nlist:a\nA:fd:bob:rxtc\n'"A:fdI:alice:$ALL" /letters
+says 'all that was shown' 0 'nothing to change'
+holds 'of which nothing is said' [ "$(grep -c 'not set' "$work/err")" = 0 ]
+stops_are 'stops nothing' 0
+sets $'list:a\nA:fd:bob:rxtc\nA:fdI:alice:r' /letters
+says 'less of it' 1 "not set: + A:fdI:alice:r, - A:fdI:alice:$ALL: what has the flag I comes with"
+printed 'changes nothing' 'nothing to change'
+stops_are 'and stops nothing' 0
+sets $'list:a\nA:fd:bob:r\nD:fdI:bob:r' /letters --dry-run
+says 'beside what is set' 1 'not set: + D:fdI:bob:r, '
+printed 'it is left out' '- A:fd:bob:rxtc' '+ A:fd:bob:r'
+sets $'list:ap\nA:fd:bob:rxtc\nA:fdI:alice:r' /letters --dry-run
+ended_well 'a list that is closed to it'
+printed 'keeps what is sent' '- list:a' '+ list:ap' '+ A:fdI:alice:r'
+sets $'list:a\nA:fdI:alice:r' / --dry-run
+printed 'and so does the root' "- A:fd:alice:$ALL" '- A::AUTHENTICATED@:xt' '+ A:fdI:alice:r'
 
 # A name that nobody has is most often mistyped. Dates have names of their own, and no mask.
 sets "$(printf '%s\n' list:a A::alise:r A:fdg:staff:r A::alice:r A::OWNER@:r \

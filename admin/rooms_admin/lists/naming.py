@@ -23,8 +23,12 @@ class Links:
     def __init__(self) -> None:
         self._passing: dict[bytes, tuple[str, ...]] = {}
 
+    def passed(self, path: bytes) -> tuple[str, ...]:
+        """Which lists the folder above passes down."""
+        return self._passing.get(above(path), ())
+
     def of(self, one: Object) -> tuple[str, ...]:
-        passing = self._passing.get(above(one.path), ())
+        passing = self.passed(one.path)
         flags = {which: one.list_of(which)[:1] or [b""] for which in LISTS}
         if one.kind == "folder":
             self._passing[one.path] = tuple(it for it in LISTS if b"a" in flags[it][0][5:])

@@ -9,6 +9,7 @@ said."""
 import argparse
 import difflib
 import os
+from dataclasses import dataclass
 
 from ..cli import words
 from ..room import in_parts, names, private_server, program, server, settings
@@ -31,13 +32,41 @@ def arguments(parser: words.Parser) -> None:
     words.dry_run(set_, "which lines would come and go")
 
 
-def _whole(lists: bytes, path: bytes, which: str) -> tuple[list[bytes], bool]:
-    """The list of that object, and whether it follows that of the folder above."""
+@dataclass(frozen=True)
+class _List:
+    """That of an object; its lines that don't come from the folder above; whether that folder
+    passes its list down, and whether that gets here."""
+    lines: list[str]
+    own: list[str]
+    is_passed: bool
+    is_linked: bool
+
+    def sent(self, text: bytes) -> tuple[list[str], list[str]]:
+        """What would be the own lines, and how those that the room ignores, since they come from
+        above, differ from what does."""
+        lines = [one for one in text.split(b"\n") if one.strip(b" \t") and not one.startswith(b"#")]
+        if not self.is_passed or not lines or b"p" in lines[0].removeprefix(b"list:"):
+            return [*map(dump.as_text, lines)], []
+        own = [dump.as_text(one) for one in lines if not is_inherited(one)]
+        ignored = [dump.as_text(one) for one in lines if is_inherited(one)]
+        if not ignored or not self.is_linked:
+            return own, []
+        there = [one for one in self.lines if one not in self.own]
+        return own, [*(f"+ {one}" for one in ignored if one not in there),
+                     *(f"- {one}" for one in there if one not in ignored)]
+
+
+def _whole(lists: bytes, path: bytes, which: str) -> _List:
     links = naming.Links()
     for one in dump.parsed(lists.split(b"\n")):
+        passed = links.passed(one.path)
         linked = links.of(one)
         if one.path == path:
-            return one.list_of(which), which in linked
+            found = one.list_of(which)
+            # What it inherits comes anew.
+            own = [line for line in found if not (which in linked and is_inherited(line))]
+            return _List([*map(dump.as_text, found)], [*map(dump.as_text, own)], which in passed,
+                         which in linked)
     raise Refused(f"no object: {names.shown(path)} isn't in the room")
 
 
@@ -51,50 +80,51 @@ def _refuse_parts(lists: bytes, path: bytes) -> None:
                       " of all of them, in the web interface")
 
 
-def _own(lists: bytes, path: bytes, which: str) -> list[str]:
-    """Without what it inherits, which comes anew."""
+def _one(lists: bytes, path: bytes, which: str) -> _List:
     _refuse_parts(lists, path)
-    found, is_linked = _whole(lists, path, which)
-    return [dump.as_text(line) for line in found if not (is_linked and is_inherited(line))]
+    return _whole(lists, path, which)
 
 
 def _look(room: Room, path: bytes, which: str, text: bytes, is_dry: bool
-          ) -> tuple[list[str], bytes]:
+          ) -> tuple[_List, bytes]:
     """The list before, once the other one was tried, and all lists."""
     if server.settled(room) != "active" or server.was_left(room):
         lists = look.at(room, "dump", may_stop=not is_dry)[0]
-        return _own(lists, path, which), lists
+        return _one(lists, path, which), lists
     with look.copied(room) as copy:
         lists = look.on(room, copy, "dump")
-        before = _own(lists, path, which)
+        before = _one(lists, path, which)
         if fault := private_server.set_list(room, copy, path, text, which):
             raise Refused(f"not set: {fault}")
         return before, lists
 
 
 def _set(room: Room, path: bytes, which: str, text: bytes, is_dry: bool) -> int:
-    before, lists = _look(room, path, which, text, is_dry)
-    wanted = text.decode("utf-8", "surrogateescape").split("\n")
-    after = [dump.as_text(line.encode("utf-8", "surrogateescape")) for line in wanted if line]
+    found, lists = _look(room, path, which, text, is_dry)
+    before = found.own
+    after, ignored = found.sent(text)
+    if ignored:
+        say(f"not set: {', '.join(ignored)}: what has the flag I comes with the list of the folder "
+            "above; list:ap closes this one to it")
     if before == after:
         print("nothing to change")
-        return 0
+        return 1 if ignored else 0
     for line in list(difflib.unified_diff(before, after, lineterm="", n=0))[2:]:
         if line[0] != "@":
             print(f"{line[0]} {line[1:]}", flush=True)
     for said in strangers.told(room, lists, set(after) - set(before)):
         say(said)
     if is_dry:
-        return 0
+        return 1 if ignored else 0
     with server.at_rest(room):
-        if _own(members.printed(room, "dump"), path, which) != before:
+        if _one(members.printed(room, "dump"), path, which).own != before:
             raise Refused(f"changed meanwhile: somebody has set the list of {names.shown(path)}, "
                           "which stays")
         status, out, said = program.run(room, ["reset", room.file, path, which], text)
         if status != 0:
             raise Stop(f"not set: {said or out.decode(errors='replace').strip()}")
     print("done")
-    return 0
+    return 1 if ignored else 0
 
 
 def run(given: argparse.Namespace) -> int:
@@ -109,6 +139,6 @@ def run(given: argparse.Namespace) -> int:
     with joining.locked(room):
         if given.what == "set":
             return _set(room, path, which, text, given.dry_run)
-        found, _ = _whole(look.at(room, "dump", may_stop=False)[0], path, which)
-    print("".join(f"{dump.as_text(line)}\n" for line in found), end="")
+        found = _whole(look.at(room, "dump", may_stop=False)[0], path, which)
+    print("".join(f"{line}\n" for line in found.lines), end="")
     return 0
