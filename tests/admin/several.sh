@@ -265,7 +265,7 @@ cat machine/etc/rooms/nginx/*/mine.conf >got
 printf '# mine\n# mine\n' >wanted
 same 'they stay' got wanted
 # Settings that can't be.
-for wrong in PASSWORDS=ldap HOST=a_b BEHIND=no PORT=0 OTHER=x HOST=rooms.example; do
+for wrong in PASSWORDS=ldap HOST=a_b BEHIND=maybe PORT=0 OTHER=x HOST=rooms.example; do
   cp machine/etc/rooms/hr.conf hr.conf
   printf '%s\n' "$wrong" >>machine/etc/rooms/hr.conf
   tree >before
