@@ -23,7 +23,7 @@ from . import restoring, texts
 from ..lists import dump
 from ..people import joining, known
 from ..machine_tar import machine_tar, restore_machine
-from ..cli.report import Refused
+from ..cli.report import Refused, say
 from ..lists.dump import Pair
 from ..people.known import Known
 
@@ -39,6 +39,8 @@ def bring_back_machine(given: argparse.Namespace) -> int:
         version = restore_machine.look_at_version(tar, conf)
         task.compare()
         task.tell_trusted()
+        for lack in machine_tar.lacking(conf, tar):
+            say(lack)
         if given.dry_run:
             task.would()
         else:

@@ -7,8 +7,8 @@ import tempfile
 from collections import Counter
 from dataclasses import dataclass, field
 
-from ..host import locks, pem, safe
-from ..room import environment, settings
+from ..host import locks, pem, safe, waiting
+from ..room import environment, names, settings
 from ..passwords import passwords
 from ..backup import backups
 from ..site import template
@@ -69,7 +69,7 @@ class Tar:
         return found[1] if found else "another day"
 
 
-def find(conf: str, backup: str) -> str:
+def _backups_of(conf: str) -> str:
     """A machine that is new may have no settings that can be read."""
     folder = "/var/backups/rooms"
     try:
@@ -77,7 +77,26 @@ def find(conf: str, backup: str) -> str:
             folder = settings.last(source.read().split("\n"), "BACKUPS") or folder
     except OSError:
         pass
-    folder = ROOT + folder
+    return ROOT + folder
+
+
+def lacking(conf: str, tar: Tar) -> list[str]:
+    """Rooms with backups here whose settings the tar of a night hasn't, a line each: one that was
+    made since has a tar of its own."""
+    if "machine/added" in tar.words:
+        return []
+    folder, known = _backups_of(conf), {settings.name_of(one) for one in tar.rooms()}
+    there = waiting.answer(waiting.PATIENCE, lambda: sorted(os.listdir(folder)), folder)
+    rows = {name: backups.with_file(f"{folder}/{name}", name, "machine.tar")
+            for name in (there if isinstance(there, list) else [])
+            if names.is_room(name) and name not in known}
+    return [f"{name} has backups, and no settings in {tar.place}, as a room that was made since or "
+            f"removed: rooms-admin restore --machine {some[-1].place}"
+            for name, some in rows.items() if some]
+
+
+def find(conf: str, backup: str) -> str:
+    folder = _backups_of(conf)
     if backup == "latest":
         backups.need_disk(folder)
         found = backups.with_file(folder, settings.name_of(conf), "machine.tar")
