@@ -8,6 +8,10 @@
                                             of 60 kB and without a right password, whose answers
                                             nobody takes, until standard input ends; prints how many
                                             were answered
+    limits.py crowd PORT WHO NUMBER PROCESS ..
+                                            so many requests with typed passwords, that these of
+                                            nginx's see all at once, and five of WHO from other
+                                            addresses behind them; prints what these are answered
     limits.py pace PORT WHO TARGET NUMBER   by eight connections as fast as they are answered;
                                             prints with which statuses so many were, and how many
                                             more in the next five seconds
@@ -17,7 +21,10 @@
 """
 import base64
 import contextlib
+import os
+import resource
 import selectors
+import signal
 import socket
 import ssl
 import struct
@@ -36,10 +43,12 @@ def request(target, who="", more=b""):
     return sent + b"\r\n"
 
 
-def connected(port, kept=0):
+def connected(port, kept=0, address=""):
     one = socket.socket()
     if kept:
         one.setsockopt(socket.SOL_SOCKET, socket.SO_RCVBUF, kept)
+    if address:
+        one.bind((address, 0))
     one.settimeout(10)
     one.connect(("127.0.0.1", int(port)))
     return one
@@ -138,6 +147,25 @@ def answered_heads(one):
     return heads
 
 
+def crowd(port, who, count, *processes):
+    resource.setrlimit(resource.RLIMIT_NOFILE, (8192, 8192))
+    crowd_of = [connected(port) for _ in range(int(count))]
+    others = [connected(port, address=f"127.0.0.{number}") for number in range(2, 7)]
+    # (all of them are accepted)
+    time.sleep(1)
+    for process in processes:
+        os.kill(int(process), signal.SIGSTOP)
+    try:
+        for typed, one in enumerate(crowd_of):
+            one.sendall(request("/", f"x:{typed}"))
+        for one in others:
+            one.sendall(request("/", who))
+    finally:
+        for process in processes:
+            os.kill(int(process), signal.SIGCONT)
+    print(*sorted(one.recv(12)[9:].decode() for one in others))
+
+
 def number(size):
     """The length of a text, as HPACK has it."""
     return http2.text_of("x" * size)[:-size]
@@ -198,4 +226,4 @@ def holds(port, who, target, number):
 
 
 {"log": log, "names": names, "streams": streams, "goes": goes, "holds": holds,
- "pace": pace}[sys.argv[1]](*sys.argv[2:])
+ "crowd": crowd, "pace": pace}[sys.argv[1]](*sys.argv[2:])

@@ -285,8 +285,8 @@ for room in office invoices; do
 done
 behind 'it is there again'
 does 'so is the check of passwords' \
-  'stat -c "%U %G %a" /run/rooms-front; cd /run/rooms-front && ls *.sock'
-prints 'where nginx alone enters' 'root www-data 710' passwords.sock
+  'stat -c "%U %G %a" /run/rooms-front; cd /run/rooms-front && ls [!c]*.sock; ls c*.sock | wc -l'
+prints 'where nginx alone enters' 'root www-data 710' passwords.sock 25
 does 'those two rooms go' "systemctl stop rooms@ledger
   rooms-admin remove ledger && rooms-admin remove archive &&
   rm -r /etc/rooms/machines /var/lib/rooms-passwords/rooms-archive.* /var/lib/rooms/ledger.rooms* \

@@ -96,7 +96,7 @@ shows 'nor for a large one' 502 'The room doesn’t answer at the moment' alice:
   --data-binary "@$PWD/large"
 
 # Passwords that nobody checks.
-sed -i '/^upstream rooms_passwords/ s#unix:[^;]*#unix:/nowhere/passwords.sock#' sites-enabled/rooms
+sed -i 's#unix:[^ ;]*/checks-[$]room_checks#unix:/nowhere/checks#' sites-enabled/rooms
 reloaded awaits_nobody 503
 shows_each 'nobody checks passwords' 503 'Passwords can’t be checked' \
   'Kennwörter können nicht geprüft werden' 'Les mots de passe ne peuvent pas être vérifiés' \

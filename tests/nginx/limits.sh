@@ -120,6 +120,14 @@ ask 'alice is answered beside them' 200 - alice:a '/door/find/?plan'
 ask 'and gets a ZIP' 200 - alice:a /door/zip/large
 let_go
 
+# More checks of passwords at once than wait anywhere keep none of another network waiting.
+sed -i -e 's/worker_connections 256/worker_connections 4096/' \
+  -e 's/^daemon off;/& worker_rlimit_nofile 8192;/' nginx.conf
+reload_front
+limits crowd "$front" alice:a 700 $(cat "/proc/$proxy/task/$proxy/children") >met
+holds "beside 700 checks five of others meet $(cat met)" \
+  [ "$(tr ' ' '\n' <met | grep -c 200)" -ge 4 ]
+
 # Of one user so many are asked of the door at once; who leaves counts until it has answered.
 limits goes "$front" bob:b '/door/find/?plan' 1000 &
 going=$!

@@ -199,9 +199,9 @@ timeout 20 "$nginx" -p "$PWD" -c "$PWD/nginx.conf" >said 2>&1
 holds 'keeps the next one from starting' \
   grep -q 'passwords.sock.*Address already in use' said error.log
 holds 'the unit removes it' \
-  grep -qx 'ExecStartPre=-/bin/rm -f /run/rooms-front/passwords.sock' \
+  grep -qx 'ExecStartPre=-/usr/bin/find /run/rooms-front -maxdepth 1 -name "[*].sock" -delete' \
   "$repo/deploy/systemd/nginx.service.conf"
-rm -f checks/passwords.sock
+find checks -maxdepth 1 -name '*.sock' -delete
 start_front 'nginx after a kill' || return
 ask 'then it serves' 200 - alice:pw /folder/letters
 stop_proxy

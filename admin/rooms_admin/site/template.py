@@ -18,6 +18,8 @@ SETTINGS = "/etc/rooms/site"
 START = "/var/lib/rooms-front/start.html"
 MACHINES = "/etc/rooms/machines"
 KEY = "/etc/rooms/passwords.key"
+# Sockets at which passwords are checked, which divide a hundred.
+CHECKS = 25
 # What stands in a file of its own.
 _PART = re.compile(r"^@part ([a-z.-]+)@\n", re.M)
 # A line for each field that nginx doesn't pass on, of what it asks by this protocol.
@@ -226,6 +228,9 @@ def _maps(site: Site) -> dict[str, list[str]]:
         "LARGEST_OF": [f"{one.name} {one.largest << 20}" for one in site.shown if one.largest > 1],
         "DATES": [f"{one.name} {one.name}" for one in site.shown if one.notes_changes],
         "EARLIER": [f"{one.name} yes" for one in site.shown if one.on or one.shows_nights],
+        "CHECKS": [*(f"{100 // CHECKS}% {number}" for number in range(1, CHECKS)), "* 0"],
+        "CHECK_SOCKETS": [f"listen unix:/run/rooms-front/checks-{number}.sock backlog=128"
+                          for number in range(CHECKS)],
         "SESSIONS": [f"{one.name} 1" for one in site.shown if one.passwords == "session"],
         "CHANGES": [f'"{one.name} {f"/{one.name}" if one.on else ""}/password" {_changes(one)}'
                     for one in site.shown],
