@@ -20,6 +20,7 @@ import { whereIs } from './net/addresses.js';
 import { withSent } from './net/sent_first.js';
 import { showList } from './list_editor/list_view.js';
 import { keepClear } from './ui/covering.js';
+import { focusLeft, keepNothing, noteLeft } from './ui/returning.js';
 import { clearNotices, notShown, showWaiting, tellFault, waitFor } from './ui/messages.js';
 import { arrived, fullName, people } from './net/directory.js';
 import { showRights } from './list_editor/my_rights.js';
@@ -31,6 +32,9 @@ const DOCUMENT = ['show', texts.page.document];
 const TABS = [['access', texts.page.whoHasAccess], ['rights', texts.page.myRights],
   ['dacl', texts.page.advanced], ['sacl', texts.page.recorded]];
 const main = document.querySelector('main');
+
+const viewWords = (view) => ({ new: texts.moments.news, earlier: texts.earlier.earlier,
+  ...Object.fromEntries([DOCUMENT, ...TABS]) })[view];
 
 // Each visit of a place has a number, so that a slow reply isn't shown at a later place.
 let looks = 0;
@@ -75,7 +79,8 @@ async function showObject(path, view, isCurrent) {
   if (!isCurrent()) return;
   const box = element('div', { class: 'sheet padded' });
   const head = objectHead(path, view, kind);
-  main.replaceChildren(element('section', { 'aria-label': texts.page.access }, head, box));
+  const label = view === 'show' ? texts.page.document : texts.page.access;
+  main.replaceChildren(element('section', { 'aria-label': label }, head, box));
   if (kind === 'document') arrived(path, kind);
   if (view === 'show' && kind === 'document') await showOrTell(path, box, isCurrent);
   else if (view === 'access' || view === 'show') await showAccess(path, kind, box, isCurrent);
@@ -88,7 +93,10 @@ async function show() {
   const look = looks;
   const isCurrent = () => look === looks;
   const { path, view, night } = whereIs(location.hash);
-  document.title = texts.page.title(path === '/' ? texts.places.all : marked(api.nameOf(path)));
+  const name = path === '/' ? texts.places.all : marked(api.nameOf(path));
+  document.title = texts.page.title(name);
+  // It has the focus by now, and this is what is read aloud.
+  main.setAttribute('aria-label', [name, viewWords(view)].filter(Boolean).join(', '));
   document.getElementById('path').replaceChildren(pathLinks(path));
   clearNotices();
   try {
@@ -96,6 +104,7 @@ async function show() {
     else if (view === 'earlier') await showEarlier(path, night, main, isCurrent);
     else if (view) await showObject(path, view, isCurrent);
     else await showFolder(path, main, isCurrent);
+    if (isCurrent()) focusLeft(main);
   } catch (fault) {
     if (!isCurrent()) return;
     main.replaceChildren(notShown(texts.page.notShown, show));
@@ -140,9 +149,10 @@ for (const kind of ['dragover', 'drop']) {
 document.querySelector('header').addEventListener('click', ({ target }) => {
   const link = target instanceof Element && target.closest('a');
   if (!link || link.getAttribute('href') !== (location.hash || '#/')) return;
-  history.replaceState(null, '');
+  keepNothing();
   show();
 });
+main.addEventListener('click', noteLeft);
 document.getElementById('skip').addEventListener('click', (event) => {
   // The place follows the '#'.
   event.preventDefault();

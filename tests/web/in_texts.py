@@ -170,7 +170,8 @@ class InTexts:
         alice.until(lambda: 'letter.txt' in alice.names(), 'the rows')
         alice.settled()
         assert not alice.all('.found-of')
-        alice.until(lambda: alice.script('return history.state') is None, 'nothing is kept')
+        alice.until(lambda: alice.script('return history.state?.find ?? null') is None,
+                    'nothing is kept')
 
     def by_keys(self):
         """From the field down through names and texts, and back by Escape."""

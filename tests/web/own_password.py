@@ -54,6 +54,11 @@ class Passwords:
                 (('first one of alice', 'password12', 'password12'), 'easy to guess')):
             self.fill(alice, *texts)
             alice.says(words, css='dialog .wrong')
+            # What is to be typed anew has the focus.
+            present, new = alice.all(FIELDS)[:2]
+            wanted = present if words == 'isn’t right' else new
+            alice.until(lambda one=wanted: alice.script(
+                'return document.activeElement === arguments[0]', one), f'the focus: {words}')
 
     def changed(self):
         alice = self.alice

@@ -36,6 +36,11 @@ async function change(old, made) {
   return why ?? (reply?.status === 429 ? texts.account.why.busy : texts.account.notChanged);
 }
 
+function typeAnew(input) {
+  input.focus();
+  input.select();
+}
+
 function askFor(user, title, hint) {
   const [old, made, again] = ['current', 'new', 'new'].map((one) => element('input',
     { type: 'password', autocomplete: `${one}-password`, required: true }));
@@ -44,10 +49,12 @@ function askFor(user, title, hint) {
     onsubmit: async (event) => {
       event.preventDefault();
       const chosen = made.value.normalize('NFC');
-      fault.textContent = made.value === again.value ? '' : texts.account.differ;
-      if (fault.textContent) return;
-      fault.textContent = await change(old.value, chosen) ?? '';
-      if (!fault.textContent) finish(chosen);
+      fault.textContent = '';
+      const why = made.value === again.value ? await change(old.value, chosen)
+        : texts.account.differ;
+      fault.textContent = why ?? '';
+      if (why === null) finish(chosen);
+      else typeAnew(why === texts.account.why.old ? old : made);
     },
   }, hint ? element('p', {}, hint) : null,
   element('input', { type: 'text', autocomplete: 'username', value: user, hidden: true }),

@@ -7,6 +7,7 @@ import { texts } from '../language/language.js';
 import { findAll } from './given.js';
 import { showInTexts } from './in_texts.js';
 import { linkTo } from '../ui/links.js';
+import { focusLeft, keep, kept } from '../ui/returning.js';
 import { tellFault, waitFor } from '../ui/messages.js';
 import { shortened } from '../text/who_is.js';
 import { marked } from '../text/invisible.js';
@@ -58,10 +59,6 @@ function shown({ found, all, unlisted }, { text, top, field, isBusy, below }, ba
   return made;
 }
 
-// What was looked for is kept with this step of the browser's way back, and with nothing else.
-const keep = (find) => history.replaceState(find === null ? null : { find }, '');
-const kept = () => history.state?.find ?? null;
-
 // A search from the folder 'top' on: what was typed in 'field' is looked for, and shown in 'place'.
 class Finder {
   constructor(top, field, { place, here, redraw, searches }) {
@@ -84,7 +81,7 @@ class Finder {
 
   // Whoever comes back here, as from what was found, or loads the page again, finds it again.
   again() {
-    const text = this.isNew ? kept() : null;
+    const text = this.isNew ? kept().find ?? null : null;
     this.isNew = false;
     if (text === null || this.field.value !== '') return;
     this.field.value = text;
@@ -106,7 +103,7 @@ class Finder {
   async find(text) {
     this.looks += 1;
     const look = this.looks;
-    keep(text);
+    keep({ find: text });
     const isWanted = () => look === this.looks && this.place.isConnected;
     const below = this.searches() ? element('div', { class: 'found-in-texts' }) : null;
     const draw = (told, isBusy) => {
@@ -118,7 +115,9 @@ class Finder {
     if (below) showInTexts(below, this.top, text, isWanted);
     try {
       const told = await waitFor(findAll(this.top, text));
-      if (isWanted()) draw(told, false);
+      if (!isWanted()) return;
+      draw(told, false);
+      focusLeft(this.place);
     } catch (fault) {
       if (isWanted()) this.redraw();
       throw fault;
@@ -141,7 +140,7 @@ export function finder(top, field, shownBy) {
   const made = new Finder(top, field, shownBy);
   field.addEventListener('input', () => {
     made.looks += 1;
-    if (kept() !== null) keep(null);
+    if (kept().find) keep({ find: null });
   });
   field.addEventListener('keydown', (event) => made.take(event));
   return made;

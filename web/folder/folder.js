@@ -3,11 +3,13 @@
 import * as acts from './actions.js';
 import * as api from '../net/api.js';
 import { closedFolder, placesBelow } from './no_listing.js';
+import { announce } from '../ui/announce.js';
 import { button, element } from '../ui/dom.js';
 import { acceptDrops } from './drop.js';
 import { texts } from '../language/language.js';
 import { linkTo } from '../ui/links.js';
 import { notShown, tellFault, waitFor } from '../ui/messages.js';
+import { kept } from '../ui/returning.js';
 import { isWorking } from '../ui/working.js';
 import { arrived, people } from '../net/directory.js';
 import { detailsIn } from '../net/door.js';
@@ -22,6 +24,20 @@ import { removeObjects } from './removal.js';
 import { chosenOf, drawRows, newLook, shownOf } from './rows.js';
 import { tagSeen } from './safe_put.js';
 import { replaceBy, uploadAll } from './upload.js';
+import { isolated } from '../text/words.js';
+
+// In milliseconds.
+const A_MOMENT = 700;
+
+// Whoever doesn't see the rows hears how many are left, once nothing more is typed.
+function sayFiltered(look, filter) {
+  const text = filter.value.trim();
+  // What was found further down is said by itself.
+  if (text === '' || !filter.isConnected || kept().find) return;
+  const { length } = shownOf(look);
+  announce('good', length === 0 ? texts.folder.nothingFits
+    : texts.find.found(length, isolated(text)));
+}
 
 // The filter, which also finds what is further down, and what can be done with what is selected.
 // Its place is kept when nothing is.
@@ -33,10 +49,14 @@ function tools(look, does, redraw, found) {
     filter.setAttribute('placeholder', words);
   };
   offer(look.searches);
+  let typing = null;
   filter.addEventListener('input', () => {
     look.filter = filter.value;
     redraw();
+    clearTimeout(typing);
+    typing = setTimeout(() => sayFiltered(look, filter), A_MOMENT);
   });
+  filter.addEventListener('keydown', () => clearTimeout(typing));
   const told = element('span', { class: 'count', role: 'status' });
   const group = { class: 'chosen none', role: 'group', 'aria-label': texts.folder.chosen };
   const chosen = element('div', group, told,
@@ -47,6 +67,10 @@ function tools(look, does, redraw, found) {
     const count = chosenOf(look).length;
     told.textContent = count === 0 ? '' : texts.folder.selected(count);
     chosen.classList.toggle('none', count === 0);
+    // What can be done comes above the rows where the window is narrow, and moves these.
+    if (document.activeElement?.closest('tbody')) {
+      document.activeElement.scrollIntoView({ block: 'nearest' });
+    }
   };
   const finding = finder(found.path, filter, { ...found, redraw });
   const shown = element('div', { class: 'tools' },

@@ -8,6 +8,7 @@ import { texts } from '../language/language.js';
 import { MOST_SHOWN, searchAll } from './given.js';
 import { searchBelow } from '../net/door.js';
 import { linkTo } from '../ui/links.js';
+import { focusLeft } from '../ui/returning.js';
 import { tellFault, waitFor } from '../ui/messages.js';
 import { momentWords } from '../text/moments.js';
 import { marked } from '../text/invisible.js';
@@ -72,10 +73,12 @@ export async function showInTexts(box, top, text, isWanted) {
   const draw = (children) => box.replaceChildren(...children.filter((one) => one !== null));
   if (!isSearched(text)) return draw([hint(texts.search.short)]);
   draw([hint(texts.search.busy)]);
+  announce('good', texts.search.busy);
   try {
     const told = await waitFor(searchAll(top, text));
     if (!isWanted()) return null;
     draw(shown(told, top, text));
+    focusLeft(box);
     announce('good', toldOf(told));
   } catch (fault) {
     if (!isWanted()) return null;

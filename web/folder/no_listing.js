@@ -70,6 +70,7 @@ export async function placesBelow(folder, isListed) {
     forget(me);
     forgetTags(me);
     lately.remove();
+    document.querySelector('main').focus({ preventScroll: true });
   }, { class: 'small plain' });
   const lately = late.length === 0 ? null : part(texts.folder.openedLately, late, clear);
   return [shared.length === 0 ? null : part(texts.folder.sharedWithYou, shared,

@@ -67,7 +67,8 @@ const pdfOf = (bytes, name) => element('div', { class: 'empty' },
 function textShown(text, name, isWhole) {
   if (text === null) return none();
   if (text === '') return element('p', { class: 'empty' }, texts.folder.emptyDocument);
-  const shown = element('pre', { tabindex: '0', dir: 'auto', 'aria-label': name }, text);
+  const shown = element('pre', { tabindex: '0', dir: 'auto', role: 'region', 'aria-label': name },
+    text);
   return isWhole ? shown
     : element('div', {}, shown, element('p', { class: 'hint' }, texts.folder.beginning));
 }

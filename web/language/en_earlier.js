@@ -23,7 +23,7 @@ export const EN_EARLIER = {
   getOf: (name) => `Get ${name} as it was`,
   getAll: 'Get all of it',
   putBack: 'Put back',
-  putBackOf: (name) => `Put ${name} back`,
+  putBackOf: (name) => `Put back ${name}`,
   putBackMissing: 'Put back what is missing',
   headings: ['Name', 'Kind', 'Now', 'What can be done'],
   caption: 'What was in this folder that night, and what is there now.'

@@ -15,7 +15,7 @@ import { noAnswerWords } from '../text/would_words.js';
 import { button, element } from '../ui/dom.js';
 import { clearDone, showDialog, tell } from '../ui/messages.js';
 import { belowOf, perhapsOf, surely, withChanges } from './consequences.js';
-import { tellOutcome } from './outcome_view.js';
+import { speakOutcome, tellOutcome } from './outcome_view.js';
 import { objectsRound } from './passage.js';
 import { changesAt, changesBelow, ofOwners } from './who_can.js';
 
@@ -93,7 +93,7 @@ class Coming {
     this.send = send;
     this.moreOf = moreOf;
     this.looks = 0;
-    this.shown = element('div', {});
+    this.shown = element('div', { class: 'told' });
   }
 
   async draw(steps) {
@@ -107,6 +107,7 @@ class Coming {
     if (mine !== this.looks) return;
     this.shown.replaceChildren(element('div', { 'aria-busy': 'false', class: 'outcome' },
       drawn.told));
+    speakOutcome(this.shown);
     this.send.disabled = !drawn.isKnown;
   }
 

@@ -9,7 +9,7 @@ import { whoCould } from '../ui/who_changed.js';
 import { lookingLine } from '../ui/progress.js';
 import { asWork } from '../ui/working.js';
 import { placeName } from './access_words.js';
-import { tellOutcome } from './outcome_view.js';
+import { speakOutcome, tellOutcome } from './outcome_view.js';
 import { sendAll } from './passage.js';
 import { sentenceOf } from '../text/words.js';
 import { isListFault, isUnsaid, noAnswerWords } from '../text/would_words.js';
@@ -74,7 +74,7 @@ export class Told {
     this.text = null;
     this.line = lookingLine(state.looking, again);
     this.box = element('div', {});
-    this.shown = element('div', {}, this.box, this.line.shown);
+    this.shown = element('div', { class: 'told' }, this.box, this.line.shown);
   }
 
   draw(outcome, isBusy) {
@@ -86,6 +86,7 @@ export class Told {
       this.box.replaceChildren(told.shown);
     }
     this.box.firstChild.setAttribute('aria-busy', String(isBusy));
+    if (!isBusy) speakOutcome(this.box);
     this.line.draw(isBusy);
     this.send.disabled = isBusy;
   }

@@ -1,11 +1,13 @@
 // What a new list would bring about, drawn, with a box for each of what is offered beside it.
 
 import { texts } from '../language/language.js';
+import { announce } from '../ui/announce.js';
 import { element, icon } from '../ui/dom.js';
 import {
   MOST_NAMED, hintsOf, lockWords, offersOf, perhapsLines, saidLines, warningsOf,
 } from './access_words.js';
 
+const SAID = '.changes > li > div > p, .warnings > li, .outcome > p';
 const MARKS = { gain: 'plus', loss: 'dash', same: 'check' };
 
 // All the names, where the line counts some of them only.
@@ -60,4 +62,13 @@ export function tellOutcome(state, outcome, subject = null, ticks = new Map()) {
   // What lies in another one goes first, so that the other one is still as it was seen.
   const fromBelow = (one, other) => other.path.length - one.path.length;
   return { shown, ways: () => taken(true), left: () => taken(false).sort(fromBelow) };
+}
+
+// Reads aloud what is drawn in 'box', where it is another than before. A dialog that opens is read
+// by itself.
+export function speakOutcome(box) {
+  const said = [...box.querySelectorAll(SAID)]
+    .filter((one) => one.checkVisibility()).map((one) => one.textContent).join(' ');
+  if (said !== '' && said !== box.dataset.spoken) announce('good', said);
+  box.dataset.spoken = said;
 }

@@ -55,4 +55,10 @@ export function rove(body, shortcuts = {}) {
     next?.scrollIntoView({ block: 'nearest' });
     if (shortcut || next) event.preventDefault();
   });
+  // What the caption says of the arrow keys is heard at the heading already.
+  body.closest('table')?.tHead?.addEventListener('keydown', (event) => {
+    if (event.key !== 'ArrowDown') return;
+    body.querySelector('[data-act][tabindex="0"]')?.focus();
+    event.preventDefault();
+  });
 }

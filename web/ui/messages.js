@@ -2,21 +2,25 @@
 
 import { texts } from '../language/language.js';
 import { announce, regions } from './announce.js';
-import { button, element, field, icon } from './dom.js';
+import { button, element, field, freshId, icon } from './dom.js';
 import { askedFor } from './ask_whom.js';
+import { putAway, putAwayLater } from './covering.js';
 import { denialWords, sentenceOf } from '../text/words.js';
+
+// How long good news is shown, in milliseconds.
+const STAYS = 6000;
 
 const place = () => document.getElementById('notices');
 
 // Puts aside what was said to be done, as it may be so no longer.
 export function clearDone() {
-  for (const notice of place().querySelectorAll('.stays')) notice.remove();
+  for (const notice of place().querySelectorAll('.stays')) putAway(notice);
 }
 
 // 'kind' is 'good' or 'bad'. Good news without buttons disappears by itself, all other stays until
 // it is closed.
 export function tell(kind, text, ...actions) {
-  const close = button(icon('cross'), () => notice.remove(),
+  const close = button(icon('cross'), () => putAway(notice),
     { class: 'plain', 'aria-label': texts.messages.close });
   const said = element('p', {}, text);
   const stays = kind === 'good' && actions.length > 0 ? ' stays' : '';
@@ -26,7 +30,7 @@ export function tell(kind, text, ...actions) {
   }, icon(kind === 'bad' ? 'cross' : 'check'), said, actions, close);
   place().append(notice);
   announce(kind, text);
-  if (kind === 'good' && !stays) setTimeout(() => notice.remove(), 6000);
+  if (kind === 'good' && !stays) putAwayLater(notice, STAYS);
   return said;
 }
 
@@ -61,7 +65,7 @@ export function tellFault(fault, again = null) {
     if (old.getAttribute('data-text') === text) old.remove();
   }
   const press = remedy === null ? [] : [button(remedy[0], () => {
-    said.closest('.notice').remove();
+    putAway(said.closest('.notice'));
     remedy[1]();
   }, { class: 'small' })];
   const said = tell('bad', text, ...press, ...reasonOf(fault));
@@ -109,6 +113,7 @@ function openDialog(title, build, look) {
       dialog.close();
     };
     dialog.append(heading, ...build(finish), ...regions());
+    describe(dialog);
     dialog.addEventListener('close', () => {
       dialog.remove();
       resolve(answer);
@@ -118,6 +123,15 @@ function openDialog(title, build, look) {
     const first = document.activeElement;
     if (first.matches('dialog input[type="text"]')) selectName(first);
   });
+}
+
+// What is said in it is read aloud with its title. (Of a list with a label that alone would be.)
+function describe(dialog) {
+  const said = [...dialog.querySelectorAll(
+    ':scope > p, :scope > .told :is(.changes, .warnings) > li')]
+    .filter((one) => one.closest('details') === null);
+  for (const one of said) one.id ||= freshId('said');
+  if (said.length > 0) dialog.setAttribute('aria-describedby', said.map(({ id }) => id).join(' '));
 }
 
 // What is in a field is there to be changed, except the extension of a document.

@@ -2,6 +2,7 @@
 // much of it has ended, and its buttons. The page stays usable meanwhile.
 
 import { texts } from '../language/language.js';
+import { putAway, putAwayLater } from './covering.js';
 import { button, element } from './dom.js';
 
 const STAYS = 8000;
@@ -59,12 +60,8 @@ export function newPanel(label, title, ...buttons) {
     told.className = isShown ? 'hint' : 'unseen';
     told.textContent = words;
   };
-  // Goes by itself, but not while somebody looks at it.
-  const leave = () => setTimeout(() => {
-    if (panel.matches(':hover, :focus-within')) leave();
-    else panel.remove();
-  }, STAYS);
-  return { rows, show, say, leave, remove: () => panel.remove() };
+  return { rows, show, say, leave: () => putAwayLater(panel, STAYS),
+    remove: () => putAway(panel) };
 }
 
 // So many have ended before anybody could stop them.
