@@ -79,6 +79,10 @@ class ByKeys:
             self.ask('PUT', f'/dacl{path}',
                      f'list:ap\nA:fd:alice:{ALL}\n{more}\n'.encode())
 
+    def level_of(self, user):
+        return [line.rpartition(':')[2] for line in self.ask('GET', '/dacl/letters').split('\n')
+                if f':{user}:' in line]
+
     def focused(self):
         return self.alice.script(FOCUSED)
 
@@ -117,6 +121,33 @@ class ByKeys:
         self.alice.open(f'#{place}')
         self.alice.until(lambda: self.alice.names() or self.alice.all('.holders'), 'it')
         self.alice.script(LISTEN)
+
+    def levels(self):
+        """An arrow key is on its way to another level, and asks nothing."""
+        alice = self.alice
+        self.lists()
+        self.opened('/letters?access')
+        alice.script("document.querySelector('main').focus()")
+        self.go('What Zoe Adams can do')
+        alice.type(Keys.ARROW_DOWN)
+        time.sleep(1)
+        assert not alice.all('dialog'), alice.texts('dialog h2')
+        alice.type(Keys.ARROW_DOWN, Keys.ENTER)
+        alice.says('goes from “Can read” to “Can add, change and remove”', css='dialog')
+        alice.type(Keys.ESCAPE)
+        alice.until(lambda: not alice.all('dialog'), 'its end')
+        time.sleep(1)
+        assert not alice.all('dialog'), 'it is asked twice'
+        shown = "return document.activeElement.selectedOptions[0].textContent"
+        assert alice.script(shown) == 'Can read', alice.script(shown)
+        alice.type(Keys.ARROW_DOWN, Keys.ESCAPE)
+        assert alice.script(shown) == 'Can read', alice.script(shown)
+        # Whoever goes elsewhere is asked too.
+        alice.type(Keys.ARROW_DOWN, Keys.TAB)
+        alice.says('to “Can add and change”', css='dialog')
+        assert self.level_of('zoe') == ['rxtc']
+        alice.type(Keys.ENTER)
+        alice.until(lambda: self.level_of('zoe') == ['rwaxtc'], 'the level')
 
     def closed(self):
         """The focus goes back to where it was before it came to what is closed."""
@@ -283,7 +314,7 @@ class ByKeys:
         self.hears('Nobody loses anything')
 
 
-PLAY = [('a message is closed', ByKeys.closed),
+PLAY = [('arrow keys and levels', ByKeys.levels), ('a message is closed', ByKeys.closed),
         ('a panel is closed', ByKeys.closed_panel), ('a list is forgotten', ByKeys.forgotten),
         ('a message hides no focus', ByKeys.uncovered),
         ('what is ticked stays in sight', ByKeys.ticked),

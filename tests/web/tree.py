@@ -99,15 +99,17 @@ class Tree:
         self.removed_by_keys()
 
     def removed_by_keys(self):
-        """The one choice of the menu that begins with r."""
+        """The one choice of the menu that begins with r. A key alone asks nothing."""
         alice = self.alice
         self.tab_to('What kim can do')
         self.key('r')
+        self.key(Keys.ENTER)
         alice.until(lambda: alice.all('dialog .outcome[aria-busy=false]'), 'the question')
         assert self.focused() == 'Remove access', self.focused()
         self.key(Keys.ESCAPE)
         alice.until(lambda: self.focused() == 'What kim can do', 'the menu again')
         self.key('r')
+        self.key(Keys.ENTER)
         alice.until(lambda: alice.all('dialog .outcome[aria-busy=false]'), 'the question')
         self.key(Keys.ENTER)
         alice.until(lambda: self.own_of('/letters/2026') == [], 'the end of the line')

@@ -3,7 +3,7 @@
 import { texts } from '../language/language.js';
 import { nameOf } from '../net/api.js';
 import { today } from '../net/clock.js';
-import { addedWords, offered, select } from './add_person.js';
+import { addedWords, askingSelect, offered } from './add_person.js';
 import { button, element, icon, nameText } from '../ui/dom.js';
 import { confirm, deliver } from './confirm.js';
 import { RANKS, keyOf, letRemove, readLevels, withLevel } from '../acl/levels.js';
@@ -157,7 +157,7 @@ function levelControl(state, row, again) {
   const options = levels.sort((one, other) => rank(one) - rank(other))
     .map((one) => [one, levelWords(one, kind)]);
   const all = [...options, ['gone', goneLabel(state, row)]];
-  return select(labelOf(state, row), all, row.level, (value, made) => {
+  return askingSelect(labelOf(state, row), all, row.level, (value, made) => {
     const back = () => { made.value = row.level; };
     change(state, row, value, again, back).catch((fault) => {
       tellFault(fault);

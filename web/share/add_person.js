@@ -36,6 +36,36 @@ export function select(label, options, value, onPick) {
   return made;
 }
 
+// A menu whose pick asks something. Most browsers pick by each arrow key: then it asks once
+// somebody presses Enter or goes elsewhere, and Escape leaves all as it was.
+export function askingSelect(label, options, value, onPick) {
+  let [byKey, waits] = [false, false];
+  const ask = () => {
+    const isOther = waits && made.isConnected && made.value !== value;
+    waits = false;
+    if (isOther) onPick(made.value, made);
+  };
+  const made = select(label, options, value, () => {
+    waits = true;
+    if (!byKey) ask();
+  });
+  made.addEventListener('keydown', (event) => {
+    byKey = !event.altKey && !['Enter', ' '].includes(event.key);
+    if (!waits || !['Enter', 'Escape'].includes(event.key)) return;
+    event.preventDefault();
+    if (event.key === 'Escape') made.value = value;
+    ask();
+  });
+  for (const kind of ['keyup', 'pointerdown']) {
+    made.addEventListener(kind, () => { byKey = false; });
+  }
+  // The window may have lost the focus, and not the menu.
+  made.addEventListener('focusout', () => {
+    if (document.activeElement !== made) ask();
+  });
+  return made;
+}
+
 // Who can do what, in one of the two sentences of it. 'day' is the last one, or ''.
 export function addedWords({ known, kind, path }, subjects, level, say, day) {
   const all = subjects.map((subject) => {
