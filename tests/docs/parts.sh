@@ -14,6 +14,10 @@ same 'what starts no nginx isn'"'"'t in nginx' found /dev/null
 (cd "$here" && grep -lE '^[^#]*(lib/(machine|booted)[.]sh|dpkg -)' {admin,program}/*.sh) >found
 same 'what needs a machine of its own isn'"'"'t in admin or program' found /dev/null
 
+case $PWD in /var/tmp/*)
+  skip 'how parts are played' 'their own /var/tmp would hide this one'
+  return ;;
+esac
 mkdir -p house/{crates,tests/{docs,program,admin,nginx,machine,services,web},cache}
 cp -r "$here/run" "$here/lib" house/tests/
 printf '#!/bin/sh\n' >house/program
