@@ -205,6 +205,9 @@ echo 'rooms-standby@office.service loaded failed failed Standby copy' >failed
 checks 'a unit that failed' 2 'failed: rooms-standby@office.service: systemctl status says why; '
 holds 'and how that goes' grep -q 'once that is mended: systemctl reset-failed' "$work/out"
 : >failed
+echo 'rooms-full@office.service loaded activating auto-restart Watch' >again
+checks 'one that is started again and again' 2 'failed: rooms-full@office.service: systemctl status'
+: >again
 echo inactive >timer
 checks 'no nightly run' 1 'no nightly run is due: systemctl enable --now rooms-nightly@office.timer'
 echo active >timer

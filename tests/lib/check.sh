@@ -48,6 +48,7 @@ export ROOMS_FRONT
 mkdir -p root/etc/nginx/{sites-enabled,sites-available} \
   root/etc/systemd/system/timers.target.wants root/var/lib/systemd/timers
 : >failed
+: >again
 echo active >timer
 echo active >door
 echo yes >private
@@ -55,6 +56,7 @@ mv stand/bin/systemctl stand/bin/own
 cat >stand/bin/systemctl <<END
 #!/usr/bin/env bash
 case "\$*" in
+  'list-units --state=failed,auto-restart '*) cat "$PWD/failed" "$PWD/again" ;;
   'list-units '*) cat "$PWD/failed" ;;
   'is-active rooms-nightly@office.timer') cat "$PWD/timer" ;;
   'is-active rooms-connections.service') cat "$PWD/bounded" ;;

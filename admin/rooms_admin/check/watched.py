@@ -344,8 +344,9 @@ def see_directory() -> list[Finding]:
 
 
 def see_units() -> list[Finding]:
-    said = printed(["systemctl", "list-units", "--state=failed", "--plain", "--no-legend",
-                    "rooms*"])
+    # One that is started again and again is none that has failed.
+    said = printed(["systemctl", "list-units", "--state=failed,auto-restart", "--plain",
+                    "--no-legend", "rooms*"])
     failed = [line.split()[0] for line in said.splitlines() if line.split()]
     # One that no timer starts again stays so, whatever is mended.
     return [(CRITICAL, f"failed: {' '.join(sorted(failed))}: systemctl status says why; once that "
