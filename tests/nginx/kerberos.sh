@@ -117,6 +117,9 @@ tells EXAMPLE.NET "ktadd -k $PWD/keytab HTTP/rooms.example"
 pasted 'install -o '
 holds 'only its user reads the key' [ "$(stat -c '%U %a' kerberos.keytab)" = "$checker 400" ]
 pasted mod_auth_gssapi
+# Apache 2.4.71 loses such an expression, or not, as what else it keeps lies in its memory.
+holds 'no expression decides who is let in' \
+  eval '! grep -q "Require expr" directory.d/kerberos.apache'
 start_apache "$PWD/settings" ||
   fail 'tickets of Kerberos' "Apache doesn't start: $(head -c 300 apache.out apache.log)"
 ask_directory

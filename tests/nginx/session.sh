@@ -47,6 +47,9 @@ holds 'the passphrase is random' grep -qE '^OIDCCryptoPassphrase [0-9a-f]{48}$' 
 pasted '[Service]'
 holds 'the unit starts that' \
   grep -qx "ExecStart=/usr/sbin/apache2 -f $PWD/session.apache -DFOREGROUND" rooms-session.service
+# The module of Debian 12 has its locks there, and ends Apache where it can't make them.
+holds 'and has a folder for semaphores' \
+  grep -q '^TemporaryFileSystem=/dev/shm:' rooms-session.service
 start_sessions || {
   skip 'sessions by OpenID Connect' "Apache doesn't start: $(head -c 300 apache.out apache.log)"
   return
