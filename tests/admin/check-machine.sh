@@ -16,6 +16,10 @@ certificate() { # DAYS
 }
 printf '%s\n' CERTIFICATE=/etc/ssl/rooms.pem KEY=/etc/ssl/private/rooms.key >root/etc/rooms/site
 certificate 90
+# nginx goes on with the site of before where it hasn't read the new one, or can't have its port.
+checks 'a certificate, and nginx without TLS' 2 \
+  'nginx has no TLS, though /etc/rooms/site names a certificate: systemctl reload nginx'
+echo 301 >front.status
 checks 'a certificate' 0 'the certificate ends on '
 certificate 20
 checks 'one that ends soon' 1 'the certificate /etc/ssl/rooms.pem ends on ' \

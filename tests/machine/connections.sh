@@ -221,4 +221,23 @@ does 'with it' 'systemctl start rooms-firewall'
 in_its_place 'another account' 1 9
 in_its_place 'without a place for who waits' 1 0
 in_its_place root 0 9 answers $'\n'
+
+# Where another program has the port of TLS, nginx goes on with the site of before.
+cat >"$machine/usr/local/lib/port_443.py" <<'END'
+import socket
+at = socket.create_server(("0.0.0.0", 443))
+while True:
+    at.accept()[0].close()
+END
+does 'another program at the port of TLS' 'rooms-admin certificate rooms.example &&
+  systemd-run -q --unit=other python3 -I /usr/local/lib/port_443.py
+  until (exec 3<>/dev/tcp/127.0.0.1/443) 2>/dev/null; do sleep 0.05; done'
+inside 'rooms-admin setup --tls /etc/ssl/rooms.pem /etc/ssl/private/rooms.key'
+holds "TLS without its port fails: $status" [ "$status" = 1 ]
+holds 'by its name' grep -q '^rooms-admin setup: nginx has no TLS: ' "$work/err"
+holds 'and nobody is told to go there' eval '! grep -q "Users then open" "$work/out"'
+inside 'rooms-admin check'
+holds 'the check says so' grep -q 'CRITICAL - office: nginx has no TLS, though ' "$work/out"
+does 'once the port is free' 'systemctl stop other && systemctl reload nginx
+  while rooms-admin check | grep -q "nginx has no TLS"; do sleep 0.2; done'
 stop_machine

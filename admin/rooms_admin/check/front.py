@@ -16,7 +16,8 @@ CONNECTIONS = 768
 # Seconds that nginx may take for a look at its files: it asks for the names in them.
 PATIENCE = 20
 # What nginx says where it does its part: it asks for a password, or sends on to where it does.
-_ASKS = (200, 301, 302, 303, 307, 308, 401, 403, 429)
+_LEADS = (301, 302, 303, 307, 308)
+_ASKS = (200, *_LEADS, 401, 403, 429)
 _POLICY = "default-src 'none'; script-src 'self'; "
 _REALM = re.compile(r'Basic realm="rooms(-[a-z0-9-]+)?"', re.ASCII)
 
@@ -40,6 +41,14 @@ def _is_ours(got: http.client.HTTPResponse) -> bool:
             or _REALM.match(got.headers.get("WWW-Authenticate", "")) is not None)
 
 
+def _has_tls() -> bool:
+    """What can't be read is told by other looks."""
+    try:
+        return bool(settings.front(root.ROOT + template.SETTINGS).certificate)
+    except (OSError, Refused):
+        return False
+
+
 def see_front(room: Room) -> list[Finding]:
     """Through nginx, as far as one gets without a password: it listens, knows the room's place, and
     asks for a password. Beyond that its files have to say where the room is."""
@@ -48,16 +57,21 @@ def see_front(room: Room) -> list[Finding]:
         return []
     if not _passes_on(room):
         return [(CRITICAL, "nginx passes nothing on to its socket")]
-    for asked in (http.client.HTTPConnection(served.FRONT, timeout=20), served.Named(place[0])):
+    plain, secure = http.client.HTTPConnection(served.FRONT, timeout=20), served.Named(place[0])
+    for asked in (plain, secure):
         try:
             asked.request("GET", place[1] + "can/?", headers={
                 "Connection": "close", **({"Host": place[0]} if place[0] else {})})
             got = asked.getresponse()
             got.read(1 << 16)
             if _is_ours(got):
+                if asked is plain and got.status not in _LEADS and _has_tls():
+                    return [(CRITICAL, "nginx has no TLS, though /etc/rooms/site names a "
+                             "certificate: systemctl reload nginx; what keeps it from that is in "
+                             "/var/log/nginx/error.log")]
                 return [(OK, "nginx answers") if got.status in _ASKS else
                         (CRITICAL, f"nginx answers {got.status} for it")]
-            if got.status < 300 or got.status > 399:
+            if got.status not in _LEADS:
                 break
         except (OSError, http.client.HTTPException) as fault:
             return [(CRITICAL, f"nginx doesn't answer: {fault}")]

@@ -5,7 +5,7 @@ from contextlib import suppress
 from ..host import changes, locks
 from ..backup import for_search
 from ..room import names, settings
-from . import connections, password_files, ports, template, values
+from . import connections, password_files, ports, served, template, values
 from ..host.changes import Changes
 from ..cli.report import Refused, Stop
 
@@ -111,7 +111,17 @@ def show(made: Changes) -> bool:
     password_files.finish(made, gone)
     connections.put(made, wanted)
     serve(made, wanted)
+    if changed:
+        _see_tls(made, wanted)
     return True
+
+
+def _see_tls(made: Changes, wanted: template.Site) -> None:
+    if made.root or made.dry or not wanted.front.certificate:
+        return
+    if os.path.isdir("/run/systemd/system") and (said := served.see_reload(
+            wanted.front.certificate)):
+        raise Stop(said)
 
 
 def _start_doors(made: Changes, wanted: template.Site) -> None:

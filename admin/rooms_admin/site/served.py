@@ -4,6 +4,7 @@ import http.client
 import os
 import socket
 import ssl
+import time
 
 from ..cli.report import Refused
 from ..host import root
@@ -58,6 +59,24 @@ def see_renewal(file: str) -> str:
     except (OSError, ValueError, Refused):
         return ""
     return f"nginx has another certificate than {file}: systemctl reload nginx"
+
+
+def see_reload(file: str) -> str:
+    """Whether nginx soon has this certificate. One that can't have its port, where another program
+    listens, goes on with the site of before, and says so only in its log."""
+    until = time.monotonic() + 5
+    while time.monotonic() < until:
+        try:
+            asked = Named(settings.front(root.ROOT + template.SETTINGS).hosts[0])
+            asked.connect()
+            asked.close()
+            if asked.certificate == _first_of(file):
+                return ""
+        except (OSError, ValueError):
+            pass
+        time.sleep(0.1)
+    return ("nginx has no TLS: its site is the one of before; what keeps it from the new one is in "
+            "/var/log/nginx/error.log: ss -ltnp 'sport = :443'")
 
 
 def _is_for(file: str, host: str) -> bool:
