@@ -17,10 +17,11 @@ cp room/office.rooms* backups/office/2026-11-20.040000/
 bin/systemctl start rooms
 answers 'it is overwritten' ' 204' alice PUT /doc/letters/reply 'Dear Madam'
 paste_in "$(blocks backup.md 'rooms-admin get 2026')"
-prints 'one document out of a backup' 204
+prints 'one document out of a backup' 'made 0, replaced 1, there already 1, left out 0'
 answers 'is the old one' 'Dear Sir 200' alice GET /doc/letters/reply
-paste_in "cd $PWD && $(blocks backup.md '@reply' | sed 's#/letters/reply >#/letters/none >#')"
-holds 'one that is not in it' [ "$status" != 0 -a ! -s "$work/out" -a ! -s reply ]
+mkdir none
+paste_in "cd $PWD/none && $(blocks backup.md '>back/' | sed 's#/letters/reply >#/letters/none >#')"
+holds 'one that is not in it' [ "$status" != 0 -a ! -s "$work/out" -a ! -s none/back/reply ]
 answers 'replaces nothing' 'Dear Sir 200' alice GET /doc/letters/reply
 answers 'of the same owner' '{"group":"staff","kind":"document","owner":"alice"} 200' \
   alice GET /attr/letters/reply

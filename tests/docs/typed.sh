@@ -348,8 +348,8 @@ edit=s/2026-11-20.040000/$backup/
 types 'a restore' docs/backup 'rooms-admin restore --start 2026'
 shows 'is done' "restored /var/lib/rooms/office.rooms from /var/backups/rooms/office/$backup"
 edit=s/2026-11-20.040000/$backup/
-types 'one document' docs/backup 'rooms-admin get 2026' docs/backup @reply
-shows 'is put back' 204
+types 'one document' docs/backup 'rooms-admin get 2026' docs/backup '>back/'
+shows 'is put back' ', left out 0'
 edit=s/2026-11-20.040000/$backup/
 types 'a folder of it' docs/backup 'rooms-admin export --backup'
 shows 'is written' 'left out 0'
