@@ -1,12 +1,10 @@
 """rooms-admin VERB: one command for all that an administrator does beside the program."""
 import argparse
-import io
 import os
 import signal
 import sys
-from typing import Any
 
-from .cli import alike, manual, report, words as reading
+from .cli import alike, manual, output, report, words as reading
 from .cli.table import CHANGE, OF_UNITS, OLD, PARTS_THAT_CHANGE, VERBS
 from .host import journal
 
@@ -95,30 +93,6 @@ def _asked(words: list[str], verb: str) -> int:
     return _run(verb, words)
 
 
-class _Output(io.FileIO):
-    """Whoever looks at the first lines alone, as head does, ends nothing: a verb isn't cut off in
-    the middle of what it does, and its status is its own."""
-
-    def write(self, data: Any, /) -> int:
-        try:
-            return super().write(data)
-        except BrokenPipeError:
-            nobody = os.open(os.devnull, os.O_WRONLY | os.O_CLOEXEC)
-            os.dup2(nobody, self.fileno())
-            os.close(nobody)
-            return len(data)
-
-
-def _open_output() -> None:
-    for name in ("stdout", "stderr"):
-        stream = getattr(sys, name)
-        if isinstance(stream, io.TextIOWrapper):
-            raw = _Output(stream.fileno(), "w", closefd=False)
-            setattr(sys, name, io.TextIOWrapper(
-                io.BufferedWriter(raw), stream.encoding, errors="backslashreplace",
-                line_buffering=stream.line_buffering))
-
-
 def _flush() -> None:
     """There is no output where whoever calls has closed it."""
     if sys.stdout is not None:
@@ -135,7 +109,7 @@ def _let_go_of_output() -> None:
 
 
 def main(words: list[str] | None = None, name: str = "") -> int:
-    _open_output()
+    output.open_both()
     report.catch_signals()
     # Where whoever began this hears of no child that ends, each would seem to have ended well.
     signal.signal(signal.SIGCHLD, signal.SIG_DFL)

@@ -122,6 +122,7 @@ does 'its unit, with another program' 'chmod 755 /usr/local/bin/slow /opt /opt/a
   sed -i "s#^PROGRAM=.*#PROGRAM=/usr/local/bin/slow#; s#^REVIEW=.*#REVIEW=/audit#
     s#^REVIEWER=.*#REVIEWER=alice#" /etc/rooms/office.conf
   sed -e "/^Exec/d; /^  exec /d; /^RuntimeDirectory/d; /^Wants=/d; /^OnFailure/d" \
+    -e "/^StandardOutput/d" \
     -e "s#^Restart=always#ExecStart=/usr/bin/python3 -I /opt/attacker.py /opt/over#" \
     /usr/lib/systemd/system/rooms@.service >/etc/systemd/system/evil@.service
   systemctl daemon-reload; grep -c ^Protect /etc/systemd/system/evil@.service'

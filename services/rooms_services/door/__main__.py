@@ -16,6 +16,7 @@ if not __package__:
     sys.path[:0] = [above] if os.path.isdir(f"{above}/rooms_admin") else [
         above, os.path.join(os.path.dirname(above), "admin")]
 
+from rooms_admin.cli import output  # noqa: E402
 from rooms_services.door.changes.keeper import begun  # noqa: E402
 from rooms_services.door.search.reading import Reading  # noqa: E402
 from rooms_services.door.search.search import Texts  # noqa: E402
@@ -66,6 +67,7 @@ def _given() -> argparse.Namespace:
 
 
 def main() -> int:
+    output.open_both()
     given = _given()
     try:
         kept = given.kept or os.path.dirname(given.listen)
