@@ -222,8 +222,8 @@ class ByKeys:
         alice = self.alice
         alice.resize(*ENLARGED)
         self.opened('/letters/2026')
-        alice.script("document.querySelector('tbody [data-act=open]').focus()")
-        alice.type(Keys.ARROW_LEFT, Keys.SPACE)
+        self.go('Size')
+        alice.type(Keys.TAB, Keys.ARROW_LEFT, Keys.SPACE)
         alice.until(lambda: alice.texts('.chosen .count') == ['1 selected'], 'it')
         bottom = "return document.activeElement.getBoundingClientRect().bottom"
         assert alice.script(bottom) <= ENLARGED[1], alice.script(bottom)
