@@ -1,5 +1,6 @@
 # What pages tell an administrator to paste beside people, pasted: what comes back out of a backup,
-# an upgrade, odd names, files of a Windows server, and records that go.
+# an upgrade, odd names, files of a Windows server, records that go, and what comes out without the
+# program.
 
 . "$here/lib/pasted.sh" || return
 bin/systemctl stop rooms
@@ -314,3 +315,19 @@ else
   skip 'old records are removed' 'no flock, or no sqlite3, or one that is too old'
 fi
 bin/systemctl stop rooms
+
+# All documents by sqlite3 alone, as the program would print them, and for nobody else.
+if has_sqlite; then
+  mkdir alone && cp room/office.rooms* alone/
+  paste_in "cd $PWD/alone && $(blocks in-and-out.md writefile)"
+  holds "documents come out without the program: $(head -c 300 "$work/err")" [ "$status" = 0 ]
+  run dump room/office.rooms
+  sed -n 's/^document [^ ]* [^ ]* [0-9]* //p' "$work/out" >documents
+  holds 'as many' [ -s documents -a \
+    "$(find alone/out -type f | wc -l)" = "$(wc -l <documents)" ]
+  while IFS= read -r path; do
+    run get room/office.rooms "$path"
+    same "without the program: $path" "alone/out$path" "$work/out"
+  done <documents
+  holds 'nobody else reads them' [ -z "$(find alone/out -perm /077)" ]
+fi

@@ -399,8 +399,10 @@ for text in './rooms_' 'cp -a /mnt' 'do rooms-admin restore' reload-or-restart m
   'dpkg --compare' '--timeout 600'; do
   block_of docs/backup "$text"
 done >>typed
-# What would come of a list, by last night's: docs/pasted-back pastes it.
+# What would come of a list, by last night's, and documents by sqlite3: docs/pasted-back pastes
+# both.
 block_of docs/lists 'rooms-admin would set' >>typed
+block_of docs/in-and-out writefile >>typed
 # Whose access ends, by last night's too: docs/as-pasted pastes it.
 block_of docs/people ':until' >>typed
 # Blocks of several machines: nginx/machines, machine/new-machine and admin/standby paste them.
