@@ -229,7 +229,9 @@ curl -s -o "$work/body" "${reach[@]}" -u bob:b "$base/doc/large"
 same 'comes back' "$work/body" large
 ask 'too large by HTTP/2' 413 - alice:a /doc/large -X PUT --data-binary @larger
 "$nginx" -t -p "$PWD" -c "$PWD/nginx.conf" >"$work/out" 2>&1
-holds "nginx warns of nothing: $(head -c 300 "$work/out")" [ "$(grep -c warn "$work/out")" = 0 ]
+# On some processors it says that the names hidden from scgi don't fit into its usual table.
+grep warn "$work/out" | grep -v 'optimal scgi_hide_headers_hash' >warned
+holds "nginx warns of nothing: $(head -c 300 warned)" [ ! -s warned ]
 says_all bob:b /doc/tls '; sandbox'
 only_tls() { grep -qx $'Strict-Transport-Security: max-age=31536000\r' "$work/head"; }
 holds 'and that it is asked for with TLS only' only_tls
