@@ -234,6 +234,20 @@ room_verb user change fred --drop clerks
 ended_well 'and goes out of it'
 setting BEHIND ''
 
+# A large document stands for its parts, but for those that are somebody else's.
+holds 'a document in parts, and what only has such a name' [ "$(
+  for name in plan plan~rooms-part-000{1,2,3} other~rooms-part-0001; do
+    at_socket alice PUT "doc/$name" x
+    at_socket alice PUT "attr/$name" "{\"group\":\"staff\",\"owner\":\"frank\"}"
+  done
+)" = 201204201204201204201204201204 ]
+holds 'a part of another owner' \
+  [ "$(at_socket alice PUT attr/plan~rooms-part-0003 '{"group":"clerks","owner":"frank"}')" = 204 ]
+room_verb user remove frank --dry-run
+ended_well 'who has them'
+printed 'has them once' 'document frank staff 1 /other~rooms-part-0001' \
+  'document frank staff 1 /plan' 'document frank clerks 1 /plan~rooms-part-0003'
+
 # A server that nobody can hold is stopped for a look, but for no look alone.
 mv "$stand/socket" socket.kept
 setting PORT 1

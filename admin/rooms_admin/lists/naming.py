@@ -6,6 +6,7 @@ import re
 from collections.abc import Iterable, Iterator
 from dataclasses import dataclass, field
 
+from ..room import in_parts
 from . import end_dates
 from .dump import LISTS, Object, Pair, as_text
 from .entries import entry, is_inherited
@@ -117,3 +118,25 @@ def _of(rows: Iterable[Object | Pair], named: _User) -> Iterator[Found]:
                            if not (which in linked and is_inherited(line))] for which in LISTS}
         if named.has(one) or any(entries.values()):
             yield Found(one, **entries)
+
+
+def _whole_of(path: bytes) -> bytes:
+    """The document whose part this would be by its name, if that has the form of a part's."""
+    folder, _, name = path.rpartition(b"/")
+    whole = in_parts.whole_of(name.decode("utf-8", "surrogateescape"))
+    return folder + b"/" + whole.encode("utf-8", "surrogateescape") if whole else b""
+
+
+def without_parts(found: Iterable[Found]) -> list[Found]:
+    """A large document stands for its parts, which are named as it is, as far as they are."""
+    rows = list(found)
+    there = {one.what.path: one for one in rows if isinstance(one.what, Object)}
+
+    def is_told(one: Found) -> bool:
+        if not isinstance(one.what, Object):
+            return False
+        whole = there.get(_whole_of(one.what.path))
+        return whole is not None and isinstance(whole.what, Object) and (
+            (whole.what.owner, whole.what.group, whole.dacl, whole.sacl)
+            == (one.what.owner, one.what.group, one.dacl, one.sacl))
+    return [one for one in rows if not is_told(one)]

@@ -105,7 +105,7 @@ def leave(asked: Leaving) -> int:
     if not room.has_passwords:
         say(f"passwords of {asked.place} aren't in its file: {asked.name} has to leave where they "
             "are too")
-    for one in found:
+    for one in naming.without_parts(found):
         if isinstance(one.what, Object):
             print("\n".join(map(line, one.lines())))
     return _hand_over(asked, room, lists) if asked.heir else 0
