@@ -6,7 +6,8 @@ down.
 With --user it prints what names a user: groups, what belongs to them, objects called as they are,
 and the entries of lists, each below its object. With --group it prints the same of a group: who is
 in it, what belongs to it, and entries. What a list inherits goes with the list of the folder above,
-and isn't printed, nor are parts of a large document. With --longest it prints how many entries the longest list has, and its object.
+and isn't printed, nor are the parts of a large document that are as it is. With --longest it prints
+how many entries the longest list has, and its object.
 
 With --json it is a list of objects with the names 'kind', 'path', 'owner', 'group', and 'dacl' or
 'sacl' with the lines of that list. A user in a group is one of the kind 'member', with 'group' and
