@@ -8,6 +8,8 @@ from kit import TOP
 BUILT = re.compile(r"^build: (?:\d+ of \d+, )?(\w+) (\d+) s")
 WHOLE = re.compile(r"^build: .*; (\d+) s in all$")
 STEP = re.compile(r"^gate: (.*) took (\d+) s$")
+# What a crate takes that is told, in seconds.
+SLOW = 200
 ANEW = "every proof and must-fail edit was done in this run"
 
 
@@ -75,11 +77,11 @@ def whole_time(file, seconds, stands):
 
 
 def build_table(file):
-    """Returns the seconds of each crate, and the longest chains of them: that of the program, and
-    that of all."""
+    """Returns the seconds of the slowest crates, and the longest chains of all: that of the
+    program, and that of all."""
     seconds, stands = seconds_of_crates(file), stands_on()
-    found = ", ".join(f"`{name}` {took}" for name, took in seconds.items())
-    text = filled(f"Seconds of each crate: {found}.")
+    found = ", ".join(f"`{name}` {took}" for name, took in seconds.items() if took >= SLOW)
+    text = filled(f"Crates that take {SLOW} seconds and more: {found}.")
     chains = {}
     parts = {"the program's crates": of_program(seconds, stands), "all of these": [*seconds]}
     for what, names in parts.items():
