@@ -4,7 +4,7 @@ long lists, that four of them look at at once, and locks. Its memory is measured
 
   harm.py PROGRAM FOLDER COUNT MEGABYTES
 
-By hand: 40000 512, as its unit has it."""
+By hand: 40000 768, as its unit has it."""
 import http.client
 import os
 import sys
