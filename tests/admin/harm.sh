@@ -257,10 +257,11 @@ holds 'it is told once' [ "$status" = 0 ]
 
 # Backups have to be where nobody else can put a link.
 if [ "$(id -u)" = 0 ]; then
-  mkdir -p open/backups foreign
+  mkdir -p open/backups foreign shared
   chmod 777 open
+  chmod 1777 shared
   chown 65534 foreign
-  for place in open/backups open foreign; do
+  for place in open/backups open foreign shared; do
     cp conf kept
     setting BACKUPS "$PWD/$place"
     night

@@ -346,7 +346,9 @@ def find_backups(room: Room) -> None:
         raise Refused(f"no folder: {room.backups}, of BACKUPS in {room.conf}, isn't there")
     if why := backups.unmounted(room.backups):
         raise Refused(why)
-    if place := safe.of_others(room.backups):
+    # In one as /tmp others can put what a run would, and each unit has such a one for itself alone.
+    is_shared = os.stat(room.backups).st_mode & 0o022
+    if place := safe.of_others(room.backups) or (room.backups if is_shared else ""):
         raise Refused(f"not root's: others can change {place}, on the way to {room.backups}, "
                       f"of BACKUPS in {room.conf}")
 
