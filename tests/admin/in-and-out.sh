@@ -198,7 +198,7 @@ told 'another document is there' 1 'not replaced: another document is there' 'le
 transfers export --as root --no-lists --room "$room" /in/ümlaut kept
 holds 'and stays' [ "$(cat kept)" = ä ]
 transfers import --as root --replace --room "$room" tree /in
-told 'unless asked to' 0 'made 0, replaced 7,' 'left out 0'
+told 'unless asked to, where it differs' 0 'made 0, replaced 1, there already 12, left out 0'
 transfers export --as root --no-lists --room "$room" /in again
 told 'a round trip' 0 'documents 7, left out 0'
 diff -r tree again >found 2>&1

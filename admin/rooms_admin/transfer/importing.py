@@ -87,9 +87,20 @@ class Import:
             if there.status != 404:
                 self.client.report(name, f"not sent: {there.text()}")
                 return
+        elif self._has(data, path):
+            self.same += 1
+            return
         if self.space:
             self.space.need(len(data))
         self.told(self.client.ask("PUT", "doc", path, data), name)
+
+    def _has(self, data: bytes, path: bytes) -> bool:
+        """Whether the same document is there, if that can be read: what isn't replaced keeps its
+        date."""
+        if not self.client.may(path, "r"):
+            return False
+        got = self.client.ask("GET", "doc", path)
+        return got.status == 200 and got.body == data
 
     def send_large(self, number: int, path: bytes, name: bytes) -> None:
         """By the door, which keeps it in parts and has the same tag for the same bytes."""
