@@ -118,6 +118,18 @@ class OnePerson:
         assert self.own_of('/cases/one') == [f'A:fd:alice:{ALL}']
         assert self.own_of('/cases') == ['A:fdg:staff:rxtc']
 
+    def taken_from_a_way(self):
+        """Whoever only passes the folder loses what stands further down, and that is told."""
+        alice = self.alice
+        self.cases()
+        self.put_list('/cases', 'list:a', 'A::zoe:x', 'A:fdg:staff:rxtc')
+        self.of_person('Zoe Adams')
+        said = self.asked('Take out everywhere')
+        assert any('(can pass through now)' in line for line in said), said
+        assert any('(can change now), at /cases/plan' in line for line in said), said
+        assert any('now), at /cases/one' in line for line in said), said
+        alice.press('Cancel', 'dialog')
+
     def not_known(self):
         """Without an answer nothing is sent, and it isn't said that nobody loses anything."""
         alice = self.alice
@@ -235,6 +247,7 @@ class OnePerson:
 
     PLAY = [('exceptions have names', lines_named), ('what one may do', told_of_one),
             ('one is taken out of all places', taken_out),
+            ('taken from the way too', taken_from_a_way),
             ('one list is another meanwhile', in_the_middle),
             ('no answer, and another try', not_known), ('somebody stands in', stands_in),
             ('somebody stands in for me', stands_in_for_me),

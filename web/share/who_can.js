@@ -51,9 +51,11 @@ export const changesAt = (said, place) => toTell(said.changing.map((caller) =>
 const isIn = (path, folder) => path.startsWith(folder === '/' ? '/' : `${folder}/`);
 
 // What of a change further down isn't said by that of the nearest place above: the level, what may
-// be removed, or that something is lost. A level that stays isn't said.
+// be removed, or that something is lost, such as to read where they only passed above. A level that
+// stays isn't said.
 function isNews(one, above, kind) {
   if (above === undefined || (above.more && !one.more)
+    || (!one.more && rank(one.from) > rank(above.from))
     || (one.isBeyond && !above.isBeyond)) return true;
   const ofKind = kind === 'folder' ? 'folders' : 'documents';
   const isSaid = (words) => one[words].every((word) =>
