@@ -138,15 +138,17 @@ class FirstScreen:
         """The newest, the largest and the first name first; once more turns it, and what isn't
         known stays last."""
         alice = self.alice
-        for word, first, last in (
-                ('Changed', '2026', 'Terms.docx'),
-                ('Size', 'Framework agreement with Mueller and Sons.odt', '2026'),
-                ('By', '2026', 'Price list.xlsx')):
+        for word, first, last, order in (
+                ('Changed', '2026', 'Terms.docx', 'descending'),
+                ('Size', 'Framework agreement with Mueller and Sons.odt', '2026', 'descending'),
+                ('By', '2026', 'Price list.xlsx', 'ascending')):
             alice.press(word, 'thead')
             assert [alice.names()[0], alice.names()[-1]] == [first, last], (word, alice.names())
+            assert alice.one(f'th[aria-sort={order}]').text == word
         alice.press('Size', 'thead')
         alice.press('Size', 'thead')
         assert [alice.names()[0], alice.names()[-1]] == ['Price list.xlsx', '2026'], alice.names()
+        assert alice.one('th[aria-sort=ascending]').text == 'Size'
 
     def fewer(self):
         """A room that tells no names has no such column; one without dates has none of them."""

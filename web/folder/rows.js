@@ -13,7 +13,7 @@ import { columnsOf, headingOf, knownCells, knownLine } from './known.js';
 import { editingOf } from './editing.js';
 import { isPdf } from './preview.js';
 import { marked } from '../text/invisible.js';
-import { filtered, kindWords, sorted } from './sorting.js';
+import { filtered, isFalling, kindWords, sorted } from './sorting.js';
 
 // What is shown of a folder, and how. 'chosen' has names, and 'closed' those of what I can't open;
 // 'known' has by name what is told of it, 'shows' how much of that, and 'people' who they are.
@@ -98,11 +98,11 @@ function row(child, folder, look, acts, changed) {
 
 function heading(by, words, look, redraw) {
   const isIt = look.by === by;
-  const sort = button([words, icon(isIt && look.down ? 'down' : 'up')], () => {
+  const direction = isFalling(by, isIt && look.down) ? 'descending' : 'ascending';
+  const sort = button([words, icon(direction === 'descending' ? 'down' : 'up')], () => {
     Object.assign(look, { by, down: isIt && !look.down });
     redraw((table) => table.querySelector(`[data-sort="${by}"]`));
   }, { class: 'plain sort', 'data-sort': by });
-  const direction = look.down ? 'descending' : 'ascending';
   return element('th', { scope: 'col', 'data-by': by, 'aria-sort': isIt ? direction : 'none' },
     sort);
 }

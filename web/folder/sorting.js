@@ -27,10 +27,14 @@ const VALUES = {
 };
 export const isKnown = (by) => Object.hasOwn(VALUES, by);
 
-// The newest and the largest first. What isn't known comes last, in either direction.
+// The newest and the largest first.
+const isFromMost = (by) => by === 'when' || by === 'size';
+export const isFalling = (by, down) => isFromMost(by) !== down;
+
+// What isn't known comes last, in either direction.
 function byKnown(by, turn, { known, people }) {
   const value = ({ name }) => VALUES[by](known.get(name), people);
-  const compare = (one, other) => (by === 'who' ? reading.compare(one, other) : other - one);
+  const compare = (one, other) => (isFromMost(by) ? other - one : reading.compare(one, other));
   return (one, other) => {
     const [first, second] = [value(one), value(other)];
     const lacks = Number(first === undefined) - Number(second === undefined);
