@@ -126,6 +126,9 @@ class Element extends EventTarget {
 
   get isConnected() { return this === document.body || this.parentNode?.isConnected === true; }
 
+  // Nothing here has a style.
+  checkVisibility() { return this.isConnected; }
+
   drop(node) { this.nodes = this.nodes.filter((one) => one !== node); }
 
   put(at, those) {
@@ -165,6 +168,10 @@ class Element extends EventTarget {
 
   closest(selector) {
     return this.matches(selector) ? this : this.parentNode?.closest(selector) ?? null;
+  }
+
+  contains(node) {
+    return node === this || (Boolean(node?.parentNode) && this.contains(node.parentNode));
   }
 
   querySelectorAll(selector) {
