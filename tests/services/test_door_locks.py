@@ -2,10 +2,12 @@
 import os
 import time
 import unittest
+from unittest import mock
 
 from over import LOCKINFO, Drive
 from rooms_services.door.webdav import locks
 from rooms_services.door.webdav.kept import Kept, NotKept
+from rooms_services.room.paths import Names
 
 
 class Locking(Drive):
@@ -125,6 +127,23 @@ class Locking(Drive):
             self.assertEqual(self.status("LOCK", path, If=f"({token})"), 403, path)
             self.room.denied -= denied
             self.assertEqual(self.status("LOCK", path, If=f"({token})"), 200)
+
+    def test_a_lock_that_came_between(self) -> None:
+        """Others are answered after it was looked for locks, and before a folder is reserved."""
+        self.make(f=None, f__a=b"x")
+        table, got = locks.Locks, list[locks.Lock | None]()
+        reserve = table.reserve
+
+        def late(self: locks.Locks, user: str, names: Names) -> locks.Lock:
+            if not got:
+                got.append(self.add("bob", ("f", "a"), False, False, "", 100))
+            return reserve(self, user, names)
+        with mock.patch.object(table, "reserve", late):
+            self.assertEqual(self.status("DELETE", "/f"), 423)
+            assert got[0]
+            self.assertEqual(self.status("UNLOCK", "/f/a", user="bob",
+                                         Lock_Token=f"<{got[0].token}>"), 204)
+            self.assertEqual(self.status("DELETE", "/f"), 204)
 
     def test_many_locks(self) -> None:
         """The room answers nobody else while one is made, so that takes little beside many."""

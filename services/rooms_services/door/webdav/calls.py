@@ -195,16 +195,18 @@ class Drive:
 
     # Locks
 
-    def guard(self, call: Call, names: Names, member: bool = False, tree: bool = False) -> None:
+    def guard(self, call: Call, names: Names, member: bool = False, tree: bool = False,
+              late: bool = False) -> None:
         """Ends the request if a lock whose token it doesn't name is in the way: on the object; with
-        `member`, on the folder that gains or loses it; with `tree`, on anything below."""
+        `member`, on the folder that gains or loses it; with `tree`, on anything below. With `late`
+        what other requests have reserved meanwhile isn't in the way."""
         there = self.locks.covering(names)
         if member and names:
             there += [lock for lock in self.locks.covering(names[:-1]) if not lock.deep]
         if tree:
             there += self.locks.below(names)
         for lock in there:
-            if lock.token in call.tokens or lock.shared and any(
+            if late and lock.passing or lock.token in call.tokens or lock.shared and any(
                     other.token in call.tokens for other in there if other.names == lock.names):
                 continue
             self._passes(call, names)
@@ -242,6 +244,9 @@ class Drive:
         held = [self.locks.reserve(call.user, names) for names in places]
         call.tokens |= {lock.token for lock in held}
         try:
+            for names in places:
+                # Others were answered since it was looked whether a lock is in the way.
+                self.guard(call, names, tree=True, late=True)
             yield
         finally:
             for lock in held:
