@@ -37,6 +37,7 @@ export const DE_PERSON = {
   onTheWay: (name, places) => `Auf dem Weg dorthin kann ${name} durch ${and(places)} hindurch.`,
   hasAlready: (name, places) => `${name} hat schon Zeilen bei ${and(places)}, die bleiben, wie sie `
     + 'sind.',
+  changeThere: 'Für mehr ändern Sie dort die Zeile.',
   barred: (name, places, folder) => `${name} kommt nicht zu ${and(places)}: ${folder} erlaubt den `
     + 'Durchgang nicht.',
   standsIn: (name, other, day, many) => `${other} vertritt ${name} an ${

@@ -36,6 +36,7 @@ export const EN_PERSON = {
   onTheWay: (name, places) => `On the way there ${name} can pass through ${and(places)}.`,
   hasAlready: (name, places) => `${name} has lines already at ${and(places)}, which stay as they `
     + 'are.',
+  changeThere: 'To give more, change the line there.',
   barred: (name, places, folder) => `${name} can’t get to ${and(places)}: ${folder} doesn’t let `
     + 'them pass through.',
   standsIn: (name, other, day, many) => `${other} stands in for ${name} at ${

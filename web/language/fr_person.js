@@ -36,6 +36,7 @@ export const FR_PERSON = {
   onTheWay: (name, places) => `En chemin, ${name} peut passer par ${and(places)}.`,
   hasAlready: (name, places) => `${name} a déjà des lignes à ${and(places)}, qui restent telles `
     + 'quelles.',
+  changeThere: 'Pour donner plus, modifiez la ligne à cet endroit.',
   barred: (name, places, folder) => `${name} ne peut pas parvenir à ${and(places)} : ${folder} ne `
     + 'laisse pas passer.',
   standsIn: (name, other, day, many) => `${other} remplace ${name} à ${

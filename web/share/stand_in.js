@@ -88,12 +88,15 @@ class Chosen {
     if (this.who === null) return texts.person.chooseWho;
     if (!this.isDay) return texts.person.chooseDay(this.name);
     const having = this.found().filter(({ has }) => has);
-    const ways = this.steps().filter(({ isWay }) => isWay);
-    return [texts.person.standInSays(this.person.name, this.name, endWords(this.day.value)),
+    const steps = this.steps();
+    const ways = steps.filter(({ isWay }) => isWay);
+    const isNothing = having.length > 0 && steps.length === ways.length;
+    return [!isNothing
+        && texts.person.standInSays(this.person.name, this.name, endWords(this.day.value)),
       ways.length > 0
         && texts.person.onTheWay(this.name, ways.map(({ path }) => placeName(path))),
-      having.length > 0 && texts.person.hasAlready(this.name, quotedPlaces(having))]
-      .filter(Boolean).join(' ');
+      having.length > 0 && texts.person.hasAlready(this.name, quotedPlaces(having)),
+      isNothing && texts.person.changeThere].filter(Boolean).join(' ');
   }
 
   fields(redraw) {
