@@ -59,6 +59,14 @@ def until(what: object, seconds: float = PATIENCE) -> bool:
     return True
 
 
+def listens(place: str) -> bool:
+    """Whether somebody does at this socket, which is there a moment earlier. A connection would
+    start who answers."""
+    with open("/proc/net/unix", encoding="utf-8") as rows:
+        return any(row.split()[3] == "00010000" and row.endswith(f" {place}\n")
+                   for row in [*rows][1:])
+
+
 class Killed(unittest.TestCase):
     def setUp(self) -> None:
         folder = tempfile.TemporaryDirectory()
@@ -88,7 +96,7 @@ class Killed(unittest.TestCase):
         self.addCleanup(self.systemd.stdout.close)
         self.addCleanup(self.systemd.wait)
         self.addCleanup(self.systemd.terminate)
-        self.assertTrue(until(lambda: os.path.exists(self.at)))
+        self.assertTrue(until(lambda: listens(self.at)))
         self.idle = threading.active_count()
 
     def asks(self, name: str, user: str = "bob") -> socket.socket:
