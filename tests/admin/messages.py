@@ -1,6 +1,6 @@
-"""For tests: each message of rooms-admin stands on docs/messages.md. PACKAGE PAGE: prints those
-that don't. A table has them between backquotes: .. stands for anything, a word in capitals for a
-name, and anything may follow."""
+"""For tests: each message of rooms-admin stands on docs/messages.md, or among those that need no
+remedy (plain-lines.txt). PACKAGE PAGE: prints those that don't. A table has them between
+backquotes: .. stands for anything, a word in capitals for a name, and anything may follow."""
 import ast
 import glob
 import itertools
@@ -68,14 +68,22 @@ def given(node, file):
     return []
 
 
+def pattern(one):
+    one = re.sub(r"\\\.\\\.", ".*", re.escape(one).replace(r"\ ", " "))
+    return re.compile(re.sub(r"\b[A-Z]{1,}\b", ".+", one) + ".*", re.DOTALL)
+
+
 def patterns():
     with open(page, encoding="utf-8") as source:
         for line in source:
             if line.startswith("| "):
-                for one in re.findall(r"`([^`]+)`", line.replace(r"\|", "|").split(" | ")[0]):
-                    one = re.escape(one).replace(r"\ ", " ")
-                    one = re.sub(r"\\\.\\\.", ".*", one)
-                    yield re.compile(re.sub(r"\b[A-Z]{1,}\b", ".+", one) + ".*", re.DOTALL)
+                cell = line.replace(r"\|", "|").split(" | ")[0]
+                yield from map(pattern, re.findall(r"`([^`]+)`", cell))
+    plain = os.path.join(os.path.dirname(__file__), "plain-lines.txt")
+    with open(plain, encoding="utf-8") as source:
+        for line in source:
+            if line.strip() and not line.startswith("#"):
+                yield pattern(line.strip())
 
 
 known = list(patterns())
