@@ -121,8 +121,9 @@ class Hours(Folder):
 
 
 class Found(Folder):
-    def here(self, pairs: set[dump.Pair]) -> known.Known:
-        return known.here(self.room, pairs, known.newest_backup(self.room))
+    def here(self, pairs: set[dump.Pair], when: str = "") -> known.Known:
+        return known.here(self.room, pairs, known.newest_backup(self.room),
+                          backups.moments(when)[0] if when else None)
 
     def test_a_room_has_a_folder_of_its_own(self) -> None:
         self.assertEqual(backups.folder(self.room), f"{self.backups}/office")
@@ -183,8 +184,7 @@ class Found(Folder):
                     unittest.mock.patch.object(passwords, "password_files", return_value=[]):
                 self.assertEqual(known.change(self.room, {("staff", "alice")}, both, set()), both)
                 self.assertIsNone(known.kept(self.room))
-                for shown in ("no", "names"):
-                    room = dataclasses.replace(self.room, people=shown)
+                for room in (dataclasses.replace(self.room, people=it) for it in ("no", "names")):
                     self.assertEqual(offered.write(room, self.here(both)), [])
                     self.assertEqual((run.known(), known.newest(room).members), (both, both))
             # What isn't of this file is no news for groups.
@@ -194,7 +194,7 @@ class Found(Folder):
                     self.assertRaises(Stop):
                 known.change(self.room, set(), both, set())
             self.assertIsNone(known.kept(self.room))
-            known.try_to_keep(self.room, self.here(both))
+            known.try_to_keep(self.room, self.here(both, "2026-01-01.050000"))
             os.replace(self.room.file, f"{self.room.file}.before")
             with open(self.room.file, "wb"):
                 self.assertEqual((run.known(), known.newest(self.room).members),
@@ -206,7 +206,7 @@ class Found(Folder):
             # Of an earlier version, without numbers.
             for name in ("2026-01-01.040000", "2026-01-02.040000"):
                 os.unlink(f"{self.backups}/office/{name}/run")
-            known.try_to_keep(self.room, self.here(both))
+            known.try_to_keep(self.room, self.here(both, "2026-01-02.050000"))
             self.assertEqual(run.known(), both)
             self.backup("2026-01-03.040000", 0, lists="member a later\n")
             self.assertEqual(run.known(), {("a", "later")})
@@ -221,6 +221,7 @@ class Found(Folder):
                                   ("", {("a", "b")})):
                 with open(path, "w", encoding="ascii") as file:
                     file.write(f"group,user{first}\na,b\n")
+                os.utime(path, (0, 0) if first else None)
                 self.assertEqual(known.newest(self.room).members, wanted, first)
 
     def test_those_of_an_earlier_version_count(self) -> None:

@@ -14,6 +14,7 @@ sys.path.insert(0, os.path.join(os.path.dirname(__file__), "..", "..", "admin"))
 from test_backups import Folder  # noqa: E402
 from rooms_admin.backup import tidying  # noqa: E402
 from rooms_admin.backup.backups import Backup  # noqa: E402
+from rooms_admin.cli.report import Stop  # noqa: E402
 from rooms_admin.directory import groups  # noqa: E402
 from rooms_admin.people import known, offered  # noqa: E402
 from rooms_admin.room import published  # noqa: E402
@@ -87,6 +88,30 @@ class Restored(Folder):
                   open(f"{place}/lists.txt", "rb") as lists):
                 self.assertEqual(offered.nightly(self.room, lists, place), [])
                 self.assertEqual(run.known(), wanted, name)
+                os.unlink(f"{self.home}/web/office/{known.FILE}")
+
+    def test_a_night_says_nothing_of_what_changed_since_its_copy(self) -> None:
+        """Whoever joined meanwhile and is then taken out in the directory would stay: groups would
+        look at members of before they joined."""
+        run = groups.Run(self.room, argparse.Namespace(dry_run=False, force=False),
+                         contextlib.ExitStack())
+        alice, bob = ("staff", "alice"), ("staff", "bob")
+        before = known.newest_backup(self.room)
+        place = self.backup(time.strftime("%F.%H%M%S", time.localtime(time.time() - 60)), 7,
+                            lists="member staff alice\n")
+        with (open(self.room.file, "wb"), open(f"{place}/lists.txt", "rb") as lists,
+              unittest.mock.patch.object(published, "FOLDER", f"{self.home}/web"),
+              unittest.mock.patch.object(offered.locks, "lock",
+                                         lambda *_: contextlib.nullcontext())):
+            known.keep(self.room, known.here(self.room, {alice, bob}, before))
+            self.assertEqual(run.known(), {alice, bob})
+            self.assertEqual(offered.nightly(self.room, lists, place), [])
+            self.assertEqual(run.known(), {alice, bob})
+            with (unittest.mock.patch.object(known.members, "change", side_effect=Stop("cut off")),
+                  self.assertRaises(Stop)):
+                known.change(self.room, {alice, bob}, set(), {bob})
+            self.assertEqual(offered.nightly(self.room, lists, place), [])
+            self.assertIsNone(run.known())
 
 
 if __name__ == "__main__":

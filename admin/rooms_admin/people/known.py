@@ -2,6 +2,7 @@
 members keeps it. The names that the web interface offers are made of it, and groups sees by it
 whether the server has to stop."""
 import contextlib
+import math
 import os
 import re
 import time
@@ -52,7 +53,7 @@ def here(room: Room, pairs: set[Pair], newest_one: Newest, at: float | None = No
     return Known(pairs, time.time() if at is None else at, which_file(room), *newest_one)
 
 
-def of_copy(room: Room, pairs: set[Pair], newest_one: Newest, at: float, copied: int) -> Known:
+def _of_copy(room: Room, pairs: set[Pair], newest_one: Newest, at: float, copied: int) -> Known:
     """Of a copy that was begun at a moment, in seconds. A file that came later, as a backup that
     was put in the room's place, has other members."""
     found = here(room, pairs, newest_one, at)
@@ -86,30 +87,70 @@ def change(room: Room, before: set[Pair], joins: set[Pair], leaves: set[Pair]) -
     """Who is there then, but for what somebody else changed by hand. What was known goes first: a
     run that is cut off leaves nothing known, and the next one looks. No disk of backups is touched
     while the server rests."""
-    with contextlib.suppress(FileNotFoundError):
-        if published.has_name(room):
-            os.unlink(_path(room))
+    _forget(room)
     members.change(room, joins, leaves)
     return (before - leaves) | joins
 
 
-def kept(room: Room) -> Known | None:
-    """What was known last; nothing if nothing was."""
+def _forget(room: Room) -> None:
+    """An empty file says from when on nothing is known. On a full disk there is none."""
     if not published.has_name(room):
-        return None
+        return
+    try:
+        published.folder(room)
+        safe.put_file(_path(room), b"", 0o600)
+    except OSError:
+        with contextlib.suppress(FileNotFoundError):
+            os.unlink(_path(room))
+
+
+def _noted(room: Room) -> tuple[float, Known | None]:
+    """When something was noted last, and what was known then; never, if nothing was."""
+    if not published.has_name(room):
+        return 0, None
     try:
         with safe.own_file(_path(room)) as source:
             text = source.read().decode("ascii", "replace")
             at = os.fstat(source.fileno()).st_mtime
     except FileNotFoundError:
-        return None
+        return 0, None
+    if not text:
+        return at, None
     found = _FIRST.fullmatch(members.about(text))
     if found is None:
-        return Known(members.of_text(text), at)
-    return Known(members.of_text(text), at, found[3] or "", int(found[1]), found[2])
+        return at, Known(members.of_text(text), at)
+    return at, Known(members.of_text(text), at, found[3] or "", int(found[1]), found[2])
+
+
+def kept(room: Room) -> Known | None:
+    """What was known last; nothing if nothing was."""
+    return _noted(room)[1]
+
+
+def _is_since(at: float, night: str) -> bool:
+    """Whether that was after the copy of this night was begun, which then lacks it. What is still
+    to come was noted by a clock that was ahead."""
+    return min(backups.moments(night), default=math.inf) <= at <= time.time()
+
+
+def of_night(room: Room, pairs: set[Pair], newest_one: Newest, written: float,
+             night: str) -> Known | None:
+    """What is known once the copy of a night has told who was in groups then: whatever was noted
+    since then counts more. Nothing, if a change since then was cut off."""
+    at, last = _noted(room)
+    if _is_since(at, night):
+        if last is None:
+            return None
+        if last.file == which_file(room):
+            return replace(last, number=newest_one[0], name=newest_one[1])
+    copied = min(backups.moments(night), default=int(written))
+    return _of_copy(room, pairs, newest_one, written, copied)
 
 
 def is_newer(known: Known, last: backups.Backup) -> bool:
+    """Its number doesn't say that where the backup came later and its copy was begun before."""
+    if _is_since(known.at, last.name):
+        return True
     if known.number is None:
         return known.at >= (backups.made(last) or 0)
     name = last.name if known.name is None else known.name

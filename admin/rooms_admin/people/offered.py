@@ -9,7 +9,6 @@ from ..cli import signs
 from ..host import locks
 from ..room import names, published
 from ..passwords import passwords
-from ..backup import backups
 from ..lists import dump
 from . import known
 from ..cli.report import Interrupted, Refused, Stop, say
@@ -68,9 +67,9 @@ def nightly(room: Room, lists: IO[bytes], tonight: str) -> list[str]:
     """From what the nightly run has just written beside its backup."""
     found, newest_one = dump.members(lists), known.newest_backup(room)
     written = os.fstat(lists.fileno()).st_mtime
-    copied = min(backups.moments(os.path.basename(tonight)), default=int(written))
     with locks.lock(room.unit, 60):
-        return write(room, known.of_copy(room, found, newest_one, written, copied))
+        return write(room, known.of_night(room, found, newest_one, written,
+                                          os.path.basename(tonight)))
 
 
 def show_known(room: Room) -> None:
