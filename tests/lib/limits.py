@@ -8,6 +8,8 @@
                                             of 60 kB and without a right password, whose answers
                                             nobody takes, until standard input ends; prints how many
                                             were answered
+    limits.py handshakes PORT NUMBER        so many beginnings of TLS, each with a record behind it
+                                            of a kind that there isn't
     limits.py crowd PORT WHO NUMBER PROCESS ..
                                             so many requests with typed passwords, that these of
                                             nginx's see all at once, and five of WHO from other
@@ -99,13 +101,16 @@ def names(port, seconds):
         with contextlib.suppress(OSError), connected(port) as plain, \
                 context.wrap_socket(plain, server_hostname="rooms.example") as one:
             one.sendall(http2.PREFACE)
-            threading.Thread(target=drain, args=(one,), daemon=True).start()
             for turn in range(450):
                 if time.monotonic() > ends:
                     break
                 one.sendall(http2.frame(http2.HEADERS, http2.END | http2.WHOLE, 2 * turn + 1,
                                         later if turn else first))
                 asked += 1
+                # By this thread: a connection by TLS isn't for two at once.
+                one.setblocking(False)
+                drain(one)
+                one.settimeout(10)
             time.sleep(0.2)
     print(asked)
 
@@ -116,9 +121,9 @@ def streams(port, count):
     context.verify_mode = ssl.CERT_NONE
     context.set_alpn_protocols(["h2"])
     host, typed, field = b"rooms.example", b"Basic eA==", b"v" * 4000
-    # No byte of an answer may be sent but its head.
+    # One byte of an answer may be sent, and its head.
     sent = http2.PREFACE[:24] + http2.frame(http2.SETTINGS, 0, 0, struct.pack(
-        ">HI", http2.INITIAL_WINDOW, 0))
+        ">HI", http2.INITIAL_WINDOW, 1))
     head = (b"\x82\x87\x84\x01" + number(len(host)) + host
             + b"\x0f\x08" + number(len(typed)) + typed)
     for turn in range(100):
@@ -132,6 +137,19 @@ def streams(port, count):
         met += answered_heads(one)
     print(met, flush=True)
     sys.stdin.read()
+
+
+def handshakes(port, count):
+    sent = ssl.MemoryBIO()
+    asking = ssl.create_default_context().wrap_bio(ssl.MemoryBIO(), sent,
+                                                   server_hostname="rooms.example")
+    with contextlib.suppress(ssl.SSLWantReadError):
+        asking.do_handshake()
+    made_up = sent.read() + b"\xff\x03\x03\x00\x01\x00"
+    for _ in range(int(count)):
+        with connected(port) as one:
+            one.sendall(made_up)
+            drain(one)
 
 
 def answered_heads(one):
@@ -225,5 +243,5 @@ def holds(port, who, target, number):
     sys.stdin.read()
 
 
-{"log": log, "names": names, "streams": streams, "goes": goes, "holds": holds,
- "crowd": crowd, "pace": pace}[sys.argv[1]](*sys.argv[2:])
+{"log": log, "names": names, "streams": streams, "handshakes": handshakes,
+ "goes": goes, "holds": holds, "crowd": crowd, "pace": pace}[sys.argv[1]](*sys.argv[2:])
