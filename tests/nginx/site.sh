@@ -148,6 +148,11 @@ ask 'a folder in it' 507 - alice:pw /folder/z -X POST
 ask 'what reads' 200 - alice:pw /folder/letters
 curl -s -o list -u alice:pw "$base/dacl/doc"
 ask 'a list of what is called doc' 204 '' alice:pw /dacl/doc -X PUT --data-binary @list
+for place in /dacl/doc /hr/dacl/; do
+  printf 'list:a\n%.0sA::alice:rwaxtcC\n' {1..130} >longer
+  ask "a longer one of $place" 507 - alice:pw $place -X PUT --data-binary @longer
+done
+ask 'what records there are to be' 507 - alice:pw /sacl/doc -X PUT --data-binary list:a
 ask 'who has no password' 401 - '' /doc/letters/z -X PUT --data-binary x
 ask 'another room' 201 '' alice:pw-invoices /invoices/doc/letters/z -X PUT --data-binary x
 ask 'what nginx has inside' 404 - alice:pw /rooms/full
@@ -156,6 +161,19 @@ rm run/rooms-full/*
 : >run/rooms-full/hr.full
 ask 'a full room with a port' 507 - alice:pw-hr /doc/z -X PUT --data-binary x -H 'Host: hr.example'
 rm run/rooms-full/*
+
+# A list of more than its own entries can be, whose copies and records would fill the disk.
+{ echo list:a; for n in {1..1000}; do echo A::alice:rwaxtcC; done; } >longer
+for place in 'alice:pw /dacl/doc' 'alice:pw-invoices /invoices/dacl/' 'alice:pw /door/dacl/doc'; do
+  ask "a long list at $place" 413 - $place -X PUT --data-binary @longer
+  ask "one without a length at $place" 411 - $place -X PUT --data-binary @list \
+    -H 'Transfer-Encoding: chunked'
+done
+head -c 5000 longer >shorter
+ask 'of records' 413 - alice:pw /sacl/doc -X PUT --data-binary @shorter
+ask 'a list of that length' 422 - alice:pw /dacl/doc -X PUT --data-binary @shorter
+ask 'a document of a folder that is called dacl' 201 '' alice:pw /folder/dacl -X POST
+ask 'of any length' 201 '' alice:pw /doc/dacl/x -X PUT --data-binary @longer
 
 # Whoever is in the place of a server learns what is asked, and by whom, but no password.
 kill "${others[1]}"
