@@ -366,7 +366,7 @@ class Rests(unittest.TestCase):
             return 0, b"", ""
         with tempfile.TemporaryDirectory() as folder, contextlib.ExitStack() as mocks:
             room = room_of(folder)
-            end = types.SimpleNamespace(over=False, words=lambda: "read of eve")
+            end = types.SimpleNamespace(over=False, day=0, words=lambda: "read of eve")
             due = ended.Due(b"/x", ["list:a"], ["list:a"], [typing.cast(typing.Any, end)])
             task = ended.Run(room, False, None)
             for module, name, what in (

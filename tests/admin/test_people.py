@@ -4,6 +4,7 @@ import contextlib
 import csv
 import dataclasses
 import datetime
+import itertools
 import io
 import os
 import pathlib
@@ -256,6 +257,26 @@ class Runs(unittest.TestCase):
         self.told(dumped(x=[OVER.replace("until", "ended")], y=[READ, OVER]))
         self.assertEqual([path for path, _ in self.sent], [b"/y", b"/x"])
 
+    def test_each_folder_has_its_turn(self) -> None:
+        """Somebody writes eighty dates below one folder, in a room whose lists take a second."""
+        lists = {f"a/{number}": [READ, marked(day="2020-01-01")] for number in range(80)}
+        lists |= {f"b/c/{number}": [READ, OVER] for number in range(80)}
+        lists["b/d"] = lists["z"] = [READ, OVER]
+        ticks = itertools.count()
+        with unittest.mock.patch.object(ended.time, "monotonic", lambda: next(ticks)):
+            told = self.told(dumped(**lists))
+        self.assertEqual([path for path, _ in self.sent[:7]], [
+            b"/a/0", b"/b/c/0", b"/z", b"/a/1", b"/b/d", b"/a/2", b"/b/c/1"])
+        self.assertEqual(told, ["not taken back: 142 lists have accesses that are over: it took "
+                                "more than 20 s, and the next run goes on"])
+
+    def test_a_path_that_no_request_reaches(self) -> None:
+        """Moves made it, and the program takes no such word: what comes behind it goes on."""
+        told = self.told(dumped(**{"a" * 140_000: [READ, OVER], "b": [READ, OVER]}))
+        self.assertEqual([path for path, _ in self.sent], [b"/b"])
+        self.assertIn("its path has 140001 bytes, and no request reaches it", told[0])
+        self.assertLess(len(told[0]), 400)
+
     def test_a_list_that_cannot_be_set(self) -> None:
         self.status = 3
         told = self.told(dumped(x=[READ, OVER]))
@@ -301,7 +322,6 @@ class Places(unittest.TestCase):
         [one] = found.values()
         self.assertEqual([place["path"] for place in one.places],
                          ["/closed/x", "/closed/xy~rooms-part-0001"])
-
 
     def test_no_name_is_a_path(self) -> None:
         """A copy of a room may have the program say anything: each name becomes one of a file."""

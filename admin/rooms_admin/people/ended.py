@@ -2,6 +2,7 @@
 import datetime
 import os
 import time
+from collections import Counter
 from collections.abc import Iterable
 from contextlib import ExitStack
 from dataclasses import dataclass, field
@@ -24,6 +25,9 @@ A_DAY = datetime.timedelta(1)
 MAILED, SAID = 50, 500
 # For so many seconds lists are set: whoever manages much could write many dates.
 REST = 20
+# So many folders on the way to an object are told apart when all have their turn.
+_LEVELS = 8
+_SHOWN = 200
 
 
 @dataclass
@@ -38,6 +42,27 @@ class Due:
     def ends(self) -> list[Ending]:
         """Accesses, and not only what is still said of them."""
         return [one for one in self.ended if not one.over]
+
+
+def _shown(path: bytes) -> str:
+    """As many folders inside one another as somebody wants make a path as long."""
+    text = names.shown(path)
+    return text if len(text) <= _SHOWN else f"{text[:_SHOWN]}.."
+
+
+def in_turn(found: list[Due]) -> list[Due]:
+    """The oldest first, and one of each folder in turn, on each level: whoever writes very many
+    dates below one folder keeps none of another from its turn."""
+    order = sorted(found, key=lambda due: min(one.day for one in due.ended))
+    for level in range(_LEVELS, 0, -1):
+        before = Counter[bytes]()
+        turns = []
+        for due in order:
+            folder = b"/".join(due.path.split(b"/", level + 1)[:level + 1])
+            turns.append(before[folder])
+            before[folder] += 1
+        order = [due for _, due in sorted(zip(turns, order), key=lambda one: one[0])]
+    return sorted(order, key=lambda due: not due.ends)
 
 
 class Run:
@@ -55,7 +80,7 @@ class Run:
         self.done: list[str] = []
 
     def not_done(self, path: bytes, what: str, why: str) -> None:
-        self.undone.append(f"not taken back: {names.shown(path)}: {what}: {why}")
+        self.undone.append(f"not taken back: {_shown(path)}: {what}: {why}")
 
     def find(self, objects: Iterable[dump.Object]) -> list[Due]:
         found = []
@@ -65,8 +90,8 @@ class Run:
             for line in filter(is_meant, lines):
                 end = ending(line)
                 if end is None:
-                    self.undone.append(f"not understood: {names.shown(one.path)}: {line} is no "
-                                       "date, and whoever manages it removes that")
+                    self.undone.append(f"not understood: {_shown(one.path)}: {line} is no date, "
+                                       "and whoever manages it removes that")
                 elif end.due(self.today):
                     self.take(due, one.kind, end)
                 elif end.due(self.clock) and not end.over:
@@ -83,13 +108,19 @@ class Run:
             self.not_done(due.path, end.words(), str(fault))
 
     def set(self, due: Due) -> None:
+        if len(due.path) > names.LONGEST_PATH:
+            for one in due.ends:
+                self.not_done(due.path, one.words(), f"its path has {len(due.path)} bytes, and no "
+                              "request reaches it until somebody moves what is above")
+            return
         text = ("\n".join(due.after) + "\n").encode("utf-8", "surrogateescape")
         status, out, why = program.run(self.room, ["reset", self.room.file, due.path, "dacl"], text)
         for one in due.ends:
             if status == 0:
-                self.done.append(f"taken back: {names.shown(due.path)}: {one.words()}")
+                self.done.append(f"taken back: {_shown(due.path)}: {one.words()}")
             else:
-                self.not_done(due.path, one.words(), why or out.decode(errors="replace").strip())
+                said = why or out.decode(errors="replace").strip()
+                self.not_done(due.path, one.words(), said[:_SHOWN])
 
     def all(self, night: Iterable[dump.Object]) -> None:
         """By the lists before a stop it is known whether anything is to be done. The list of an
@@ -111,7 +142,7 @@ class Run:
         if self.dry:
             for due in found:
                 for one in due.ends:
-                    print(f"would take back: {names.shown(due.path)}: {one.words()}")
+                    print(f"would take back: {_shown(due.path)}: {one.words()}")
             return
         if server.state(self.room) != "active" and not os.path.exists(
                 server.left_at_rest(self.room)):
@@ -124,13 +155,14 @@ class Run:
             after.callback(self.tell_done)
             now = self.find(dump.parsed(members.printed(self.room, "dump").split(b"\n")))
             begun = time.monotonic()
-            for number, due in enumerate(sorted(now, key=lambda due: not due.ends)):
+            for number, due in enumerate(in_turn(now)):
                 if time.monotonic() - begun > REST:
                     left = len(now) - number
                     break
                 self.set(due)
         if left:
-            say(f"{left} lists have accesses that are over, and {NEXT}")
+            self.undone.append(f"not taken back: {left} lists have accesses that are over: it took "
+                               f"more than {REST} s, and {NEXT}")
 
     def tell_done(self) -> None:
         for line in self.done:

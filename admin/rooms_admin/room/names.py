@@ -9,6 +9,8 @@ _USER = re.compile(r"[A-Za-z0-9._+$\\-]{1,64}(@[A-Za-z0-9.-]{1,64})?", re.ASCII)
 _ROOM = re.compile(r"[a-z0-9]([a-z0-9-]{0,30}[a-z0-9])?", re.ASCII)
 _HOST = re.compile(r"([a-z0-9]([a-z0-9-]*[a-z0-9])?\.)*[a-z0-9]([a-z0-9-]*[a-z0-9])?", re.ASCII)
 _PLAIN = re.compile(r"[\w@%+=:,./-]+")
+# What a path may have that a request or the program is given. A move makes longer ones below it.
+LONGEST_PATH = 4096
 # The letters of rights.
 RIGHTS = frozenset("rwanNxDtThHdcCoy")
 

@@ -13,7 +13,7 @@ from collections.abc import Callable, Iterator
 from contextlib import AbstractContextManager, contextmanager
 
 from ..host import commands, processes, safe, tempdirs, waiting
-from . import program, settings
+from . import names, program, settings
 from ..cli.report import Stop
 
 PORT = 8780
@@ -100,6 +100,8 @@ def private_copy(room: settings.Room, backup: str) -> Iterator[str]:
 def set_list(room: settings.Room, copied: str, path: bytes, lines: bytes, which: str = "dacl"
              ) -> str:
     """What hindered that; nothing if nothing did."""
+    if len(path) > names.LONGEST_PATH:
+        return f"its path has {len(path)} bytes"
     status, out, said = program.on_copy(room, copied, ["reset", path, which], stdin=lines)
     return "" if status == 0 else said or out.decode(errors="replace").strip() or f"status {status}"
 
