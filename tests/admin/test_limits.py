@@ -1,10 +1,14 @@
 """How much a room may have, and what is told of one that has too much for its machine."""
+import argparse
 import contextlib
+import dataclasses
 import io
 import os
 import resource
 import struct
 import sys
+import types
+import typing
 import unittest
 import unittest.mock
 from unittest.mock import patch
@@ -12,8 +16,10 @@ from unittest.mock import patch
 sys.path.insert(0, os.path.join(os.path.dirname(__file__), "..", "..", "admin"))
 
 from rooms_admin.host import root  # noqa: E402
-from rooms_admin.room import fullness, limit, needs, size  # noqa: E402
+from rooms_admin.room import fullness, limit, needs, settings, size  # noqa: E402
+from rooms_admin.passwords import passwords  # noqa: E402
 from rooms_admin.backup import night, texts  # noqa: E402
+from rooms_admin.directory import groups  # noqa: E402
 from rooms_admin.check import watched  # noqa: E402
 from rooms_admin.room.needs import Need  # noqa: E402
 from test_backups import Folder  # noqa: E402
@@ -173,6 +179,39 @@ class Needs(Folder):
         with contextlib.redirect_stderr(io.StringIO()):
             run.note_need()
         self.assertIn("rooms-need can't be written: ", run.failures[0])
+
+
+class Guests(Folder):
+    """Somebody came into the directory by the name of a guest: each would be the other."""
+
+    def asked(self) -> typing.Any:
+        def search(_base: str, _whole: bool, filter_: str, _wanted: list[str]) -> list[typing.Any]:
+            found = types.SimpleNamespace(values={"uid": ["Eve"]})
+            return [found] if "(uid=eve)" in filter_ else []
+        return types.SimpleNamespace(where=types.SimpleNamespace(base="", name="uid"),
+                                     quoted=str, search=search)
+
+    def letting(self, lets: bool) -> settings.Room:
+        return dataclasses.replace(self.settings("office"), passwords="directory", guests=lets)
+
+    def test_they_get_no_group(self) -> None:
+        run = groups.Run(self.letting(True), argparse.Namespace(dry_run=False, force=False),
+                         contextlib.ExitStack())
+        with patch.object(passwords, "users", return_value={"eve", "pat"}):
+            self.assertEqual(run.without_guests(self.asked(), {("hr", "eve"), ("hr", "bob")}),
+                             {("hr", "bob")})
+            self.assertRegex(run.failures[0], "^two passwords: eve of office are in the directory")
+            run.room = self.letting(False)
+            self.assertEqual(run.without_guests(self.asked(), {("hr", "eve")}), {("hr", "eve")})
+
+    def test_check_says_it(self) -> None:
+        site = types.SimpleNamespace(shown=[self.letting(True), self.letting(False)])
+        with patch.object(passwords, "users", return_value={"eve"}), \
+                patch.object(watched.template, "gather", return_value=site), \
+                patch.object(settings, "directory", return_value=None), \
+                patch.object(watched, "Directory", lambda _: self.asked()):
+            (level, said), = watched.see_guests()
+        self.assertEqual((level, said[:20]), (2, "two passwords: eve o"))
 
 
 if __name__ == "__main__":

@@ -1,5 +1,6 @@
 """What `check` looks at of a room, and of what runs beside it."""
 import base64
+import contextlib
 import glob
 import http.client
 import os
@@ -13,6 +14,8 @@ from collections.abc import Callable
 from ..host import root, waiting
 from ..room import awaited, limit, needs, server, settings
 from ..backup import backups, dates, for_search, growth, hours
+from ..directory import guests
+from ..directory.directory import Directory
 from ..site import apache, certificates, served, template
 from ..cli.report import Refused, Stop
 from ..host.commands import printed
@@ -341,6 +344,18 @@ def see_directory() -> list[Finding]:
         asked.close()
     return [(CRITICAL, f"the directory checks no password, and nobody can sign in: {said}; "
              "journalctl -u rooms-passwords")] if said else [(OK, "")]
+
+
+def see_guests() -> list[Finding]:
+    """Whose name came into the directory later. Root alone reads how that is asked."""
+    found = []
+    with contextlib.suppress(Stop, PermissionError):
+        places = [one for one in template.gather(root.ROOT).shown if one.lets_guests]
+        asked = Directory(settings.directory(root.ROOT + guests.FILE)) if places else None
+        for place in places:
+            if asked and (both := guests.both(asked, place)):
+                found.append((CRITICAL, guests.told(place, both)))
+    return found
 
 
 def see_units() -> list[Finding]:

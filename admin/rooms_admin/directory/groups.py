@@ -161,7 +161,13 @@ class Run:
             if not pairs and not self.force:
                 raise Refused(f"empty: {name} would have no member; --force if that is meant")
             wanted |= pairs
-        return wanted
+        return self.without_guests(asked.directory, wanted)
+
+    def without_guests(self, directory: Directory, wanted: set[Pair]) -> set[Pair]:
+        """Whoever has the name of a guest has no group until one of them has another one."""
+        if both := guests.both(directory, self.room):
+            self.failures.append(guests.told(self.room, both))
+        return {(group, user) for group, user in wanted if user not in both}
 
     def last(self) -> backups.Backup | None:
         found = backups.known(self.room).backups

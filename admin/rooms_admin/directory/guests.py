@@ -8,10 +8,12 @@ from collections.abc import Iterable
 from ..room import settings
 from ..passwords import passwords
 from ..cli.report import Refused, Stop
-from ..room.settings import Place
+from ..room.settings import Place, Room
 from .directory import Directory
 
 FILE = "/etc/rooms/directory"
+# So many names are asked for in one question.
+_AT_ONCE = 50
 
 
 def settings_of(conf: str) -> settings.Directory:
@@ -26,29 +28,46 @@ def spelled(where: settings.Directory, name: str) -> str:
     return next((one for row in found for one in row.values.get(where.name.lower(), [])), "")
 
 
-def _names(where: settings.Directory) -> set[str]:
-    found = Directory(where).search(where.base, True, f"({where.name}=*)", [where.name])
-    return {one.lower() for row in found for one in row.values.get(where.name.lower(), [])}
+def doubled(asked: Directory, users: Iterable[str]) -> list[str]:
+    """Which of these the directory has too, in whatever capitals."""
+    where, names = asked.where, sorted(users)
+    theirs = set()
+    for at in range(0, len(names), _AT_ONCE):
+        of = "".join(f"({where.name}={asked.quoted(one)})" for one in names[at:at + _AT_ONCE])
+        for row in asked.search(where.base, True, f"(|{of})", [where.name]):
+            theirs |= {one.lower() for one in row.values.get(where.name.lower(), [])}
+    return [one for one in names if one.lower() in theirs]
+
+
+def both(asked: Directory, room: Place | Room) -> list[str]:
+    """Who has a password in the file of a room that lets guests in, and is in the directory:
+    whoever came there later has the name of a guest, and each would be the other."""
+    files = passwords.password_files(room.name) if room.lets_guests else []
+    return doubled(asked, set[str]().union(*map(passwords.users, files)))
+
+
+def told(room: Place | Room, found: Iterable[str]) -> str:
+    return (f"two passwords: {', '.join(found)} of {room.name} are in the directory too, and may "
+            f"keep none here: for name in {shlex.join(found)}; do rooms-admin user remove "
+            f'"$name" --password --room {room.name}; done')
 
 
 def look(root: str, where: settings.Directory, rooms: Iterable[Place]) -> list[str]:
     """What has to be told of rooms that ask the directory: who can't sign in any more."""
-    told = []
-    try:
-        names = _names(where)
-    except Refused:
-        raise
-    except Stop as stop:
-        raise Refused(f"no directory: {stop}") from stop
+    said = []
+    asked = Directory(where)
     for one in rooms:
         users = passwords.users(root + passwords.file_of(root, one.name))
-        both = sorted(user for user in users if user.lower() in names)
-        if one.guests and both:
-            raise Refused(f"two passwords: {', '.join(both)} of {one.name} are in the directory "
-                          f"too, and may keep none here: for name in {shlex.join(both)}; do "
-                          f'rooms-admin user remove "$name" --password --room {one.name}; done')
-        if not one.guests and len(both) < len(users):
-            told.append(f"{', '.join(sorted(users - set(both)))} of {one.name} can't sign in any "
+        try:
+            found = doubled(asked, users)
+        except Refused:
+            raise
+        except Stop as stop:
+            raise Refused(f"no directory: {stop}") from stop
+        if one.guests and found:
+            raise Refused(told(one, found))
+        if not one.guests and len(found) < len(users):
+            said.append(f"{', '.join(sorted(users - set(found)))} of {one.name} can't sign in any "
                         "more, whom the directory hasn't: GUESTS=yes lets them in "
                         "(docs/directory.md)")
-    return told
+    return said
