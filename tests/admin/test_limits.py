@@ -6,6 +6,7 @@ import io
 import os
 import resource
 import struct
+import subprocess
 import sys
 import types
 import typing
@@ -16,7 +17,7 @@ from unittest.mock import patch
 sys.path.insert(0, os.path.join(os.path.dirname(__file__), "..", "..", "admin"))
 
 from rooms_admin.host import root  # noqa: E402
-from rooms_admin.room import fullness, limit, needs, settings, size  # noqa: E402
+from rooms_admin.room import fullness, limit, needs, server, settings, size  # noqa: E402
 from rooms_admin.passwords import passwords  # noqa: E402
 from rooms_admin.backup import night, texts  # noqa: E402
 from rooms_admin.directory import groups  # noqa: E402
@@ -179,6 +180,18 @@ class Needs(Folder):
         with contextlib.redirect_stderr(io.StringIO()):
             run.note_need()
         self.assertIn("rooms-need can't be written: ", run.failures[0])
+
+
+class Holders(Folder):
+    def test_files_of_other_accounts_are_not_looked_at(self) -> None:
+        """Any account has as many open as it wants, and the server rests meanwhile."""
+        nobody = 65534
+        with open(self.room.file, "wb") as file:
+            for user in [os.geteuid(), *[nobody] * (os.geteuid() == 0)]:
+                child = subprocess.Popen(["sleep", "60"], stdin=file, user=user)
+                self.assertEqual(server.has_open(child.pid, self.room.file), user != nobody)
+                child.kill()
+                child.wait()
 
 
 class Guests(Folder):

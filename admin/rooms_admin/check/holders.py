@@ -7,7 +7,7 @@ from collections.abc import Iterator
 from dataclasses import dataclass
 
 from ..host import locks
-from ..room import awaited, settings
+from ..room import awaited, server, settings
 from ..host.commands import printed
 
 
@@ -19,21 +19,10 @@ class Holder:
 
 
 def of_file(file: str) -> Iterator[Holder]:
-    wanted = os.stat(file)
     for folder in sorted(glob.glob("/proc/[0-9]*")):
-        try:
-            names = os.listdir(f"{folder}/fd")
-        except OSError:
-            continue
-        for name in names:
-            try:
-                seen = os.stat(f"{folder}/fd/{name}")
-            except OSError:
-                continue
-            if (seen.st_dev, seen.st_ino) == (wanted.st_dev, wanted.st_ino):
-                yield Holder(int(folder[6:]), _read(f"{folder}/cmdline").replace("\0", " ").strip(),
-                             _unit(_read(f"{folder}/cgroup")))
-                break
+        if server.has_open(int(folder[6:]), file):
+            yield Holder(int(folder[6:]), _read(f"{folder}/cmdline").replace("\0", " ").strip(),
+                         _unit(_read(f"{folder}/cgroup")))
 
 
 def _unit(text: str) -> str:

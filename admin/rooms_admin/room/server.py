@@ -180,8 +180,13 @@ def start_again(room: Room) -> None:
 
 
 def has_open(process: int, file: str) -> bool:
+    """Nobody but root and the room's user can have opened it; and any account may have so many
+    files open that a look at all of them takes hours."""
     try:
         wanted = os.stat(file)
+        users = (0, wanted.st_uid, os.stat(os.path.dirname(os.path.abspath(file))).st_uid)
+        if os.stat(f"/proc/{process}").st_uid not in users:
+            return False
         names = os.listdir(f"/proc/{process}/fd")
     except OSError:
         return False
