@@ -3,6 +3,7 @@ backup was put in the room's place meanwhile."""
 import argparse
 import contextlib
 import datetime
+import io
 import os
 import sys
 import time
@@ -12,10 +13,11 @@ import unittest.mock
 sys.path.insert(0, os.path.join(os.path.dirname(__file__), "..", "..", "admin"))
 
 from test_backups import Folder  # noqa: E402
-from rooms_admin.backup import tidying  # noqa: E402
+from rooms_admin.backup import backups, tidying  # noqa: E402
 from rooms_admin.backup.backups import Backup  # noqa: E402
-from rooms_admin.cli.report import Stop  # noqa: E402
+from rooms_admin.cli.report import Refused, Stop  # noqa: E402
 from rooms_admin.directory import groups  # noqa: E402
+from rooms_admin.host import safe  # noqa: E402
 from rooms_admin.people import known, offered  # noqa: E402
 from rooms_admin.room import published  # noqa: E402
 from rooms_admin.room.keep import Keep  # noqa: E402
@@ -112,6 +114,32 @@ class Restored(Folder):
                 known.change(self.room, {alice, bob}, set(), {bob})
             self.assertEqual(offered.nightly(self.room, lists, place), [])
             self.assertIsNone(run.known())
+
+
+class Whole(Folder):
+    def test_one_that_came_without_its_log_is_none(self) -> None:
+        """As where copying it was cut off: the file alone is the room of weeks ago."""
+        before = self.backup("2026-01-01.040000", 7)
+        place = self.backup("2026-01-02.040000")
+        log = f"{place}/{self.room.base}-wal"
+        with open(log, "wb") as file:
+            file.write(b"x" * 1000)
+        with safe.opened(safe.folder(place)) as within:
+            backups.give_number(within, 8, self.room.base)
+        self.assertEqual(backups.find(self.room, "latest"), place)
+        os.truncate(log, 999)
+        for has, breaks in ((999, lambda: os.unlink(log)), (0, lambda: None)):
+            why = f"not whole: {place}: {os.path.basename(log)} has {has} of 1000 bytes"
+            self.assertEqual(backups.look(self.room).wrong, [why])
+            with contextlib.redirect_stderr(io.StringIO()) as said:
+                self.assertEqual(backups.find(self.room, "latest"), before)
+            self.assertIn(why, said.getvalue())
+            for word in (place, "2026-01-02.040000"):
+                self.assertRaisesRegex(Refused, f"^{why}$", backups.find, self.room, word)
+            breaks()
+        # The program has looked into it there, and brought the log into the file.
+        os.utime(f"{place}/{self.room.base}")
+        self.assertEqual(backups.find(self.room, "latest"), place)
 
 
 if __name__ == "__main__":

@@ -4,6 +4,7 @@ BACKUPS. Those that an earlier version left in BACKUPS itself are the room's too
 
 A backup is a folder of root's with files of root's, which nobody else can change. Whatever else has
 the name of one is told, and as long as it is there no backup is removed."""
+import contextlib
 import datetime
 import errno
 import os
@@ -17,8 +18,9 @@ from ..cli.report import Refused, say
 from ..room.settings import Room
 
 DATED = re.compile(r"\d{4}-\d\d-\d\d\.\d{6}", re.ASCII)
-# Beside the two files: which run it was. It is written once the copy was found sound.
-RUN = "run"
+# Beside the two files: which run it was, and how large they are. Both are written once the copy was
+# found sound. (Who copies a folder by names may be cut off between a room's file and its log.)
+RUN, FILES = "run", "files"
 # A clock may be ahead for a night. Where it is further from the last backup than that, what would
 # be lost by its date stays, until the next night.
 TRUSTED = datetime.timedelta(7)
@@ -142,13 +144,37 @@ def make_closed(place: str) -> None:
                       "option umask=0077")
 
 
-def give_number(within: int, number: int) -> None:
+def give_number(within: int, number: int, base: str) -> None:
     """What makes a copy a backup, once it was found sound: before it gets its name all of it is on
     the disk, since one whose number a power cut took would count as older than all others."""
-    safe.new_file(within, RUN, f"number {number}\n".encode(), 0o600)
-    with safe.opened(safe.own_file_below(within, RUN)) as made:
-        os.fsync(made)
+    sizes = "".join(f"{os.stat(name, dir_fd=within).st_size} {name}\n"
+                    for name in (base, f"{base}-wal") if name in os.listdir(within))
+    for name, text in ((FILES, sizes), (RUN, f"number {number}\n")):
+        safe.new_file(within, name, os.fsencode(text), 0o600)
+        with safe.opened(safe.own_file_below(within, name)) as made:
+            os.fsync(made)
     os.fsync(within)
+
+
+def _not_whole(within: int, file: str) -> str:
+    """What a room's copy lacks: without its log, or with a part of it, it is the room of an earlier
+    moment. Whoever had the program look into it here has brought the log into the file."""
+    try:
+        with safe.opened(safe.own_file_below(within, FILES)) as listed:
+            rows = os.fsdecode(os.read(listed, 2000)).splitlines()
+            noted = os.fstat(listed).st_mtime
+    except FileNotFoundError:  # Of a version that wrote none.
+        return ""
+    sizes = {name: int(size) for size, _, name in (row.partition(" ") for row in rows)
+             if size.isdecimal()}
+    if file not in sizes or os.stat(file, dir_fd=within).st_mtime > noted:
+        return ""
+    there = os.listdir(within)
+    for name, size in sizes.items():
+        has = os.lstat(name, dir_fd=within).st_size if name in there else 0
+        if has < size:
+            return f"{name} has {has} of {size} bytes"
+    return ""
 
 
 def _number(within: int) -> int:
@@ -177,6 +203,9 @@ def _look_at(above: str, name: str, file: str, found: Found) -> None:
                 with safe.opened(safe.own_file_below(within, file)):
                     pass
             except FileNotFoundError:
+                return
+            if why := _not_whole(within, file):
+                found.wrong.append(f"not whole: {place}: {why}")
                 return
             number = 0
             try:
@@ -301,10 +330,18 @@ def find(room: Room, backup: str) -> str:
 
     def asked() -> object:
         there = [one for one in places if os.path.isdir(one)]
-        return [*there[:1], *[one for one in there if os.path.isfile(f"{one}/{room.base}")]]
+        whole = [one for one in there if os.path.isfile(f"{one}/{room.base}")]
+        return [*there[:1], *whole[:1], *[why_not(one) for one in whole[:1]]]
+
+    def why_not(place: str) -> str:
+        with contextlib.suppress(safe.NoFile), safe.opened(safe.folder(place)) as within:
+            return _not_whole(within, room.base)
+        return ""
     got = waiting.answer(waiting.PATIENCE, asked, os.path.dirname(places[-1]))
     if not isinstance(got, list) or not got:
         raise Refused(f"no backup: {places[0]} isn't a folder")
     if len(got) == 1:
         raise Refused(f"no backup: {got[0]}/{room.base} isn't there or can't be read")
+    if got[2]:
+        raise Refused(f"not whole: {got[1]}: {got[2]}")
     return os.path.abspath(str(got[1]))

@@ -80,7 +80,7 @@ def _copy(room: Room, source: str, number: int, now: float) -> str:
                 dir_fd=fresh)) as made:
             safe.copy_all(from_, made)
             os.fsync(made)
-        backups.give_number(fresh, number)
+        backups.give_number(fresh, number, room.base)
     if os.path.lexists(part.removesuffix(".part")):
         raise Stop(f"{part.removesuffix('.part')} is there already: the clock was set back")
     os.rename(part, part.removesuffix(".part"))

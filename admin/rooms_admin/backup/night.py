@@ -176,7 +176,7 @@ class Night:
         try:
             with safe.opened(safe.own_folder(self.part)) as within:
                 if status == 0:
-                    backups.give_number(within, number)
+                    backups.give_number(within, number, self.room.base)
             os.rename(self.part, place if status == 0 else place + ".unsound")
         except (OSError, safe.NoFile) as fault:
             raise Stop(f"the copy can't be named {place}: {safe.why(fault)}") from fault

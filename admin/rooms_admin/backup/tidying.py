@@ -11,7 +11,7 @@ from .backups import Backup
 
 # What is beside a room's two files, also while it is written. An earlier version had a verdict.
 _BESIDE = (texts.RECORDS, texts.LISTS, texts.REVIEW, "machine.tar", "verdict", backups.RUN,
-           dates.KEPT, dates.FRESH)
+           backups.FILES, dates.KEPT, dates.FRESH)
 
 
 def remove_unfinished(place: str) -> None:
