@@ -88,6 +88,13 @@ printf '#!/bin/sh\nexit 1\n' >bin/systemctl
 write_conf ''
 fulls --look
 told 'systemd says nothing' 1 "doesn't say what MemoryMax"
+group=root/sys/fs/cgroup/rooms.slice
+mkdir -p "$group/rooms@office.service"
+echo max >$group/memory.max
+echo 1073741824 >"$group/rooms@office.service/memory.max"
+fulls --look
+told 'and need not while the server runs' 0 '0 MB of 816 are in use'
+rm -r root/sys
 write_conf 7
 fulls --look
 told 'and need not where LIMIT is a number' 0 '0 MB of 7'

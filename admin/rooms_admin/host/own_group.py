@@ -13,7 +13,6 @@ from ..cli.report import Refused
 # Where there are groups of both versions, those of the second, which alone are given away, are in a
 # folder of their own.
 _PLACES = ("/sys/fs/cgroup/unified", "/sys/fs/cgroup")
-_SYSTEMD = "org.freedesktop.systemd1"
 _PATIENCE = 10.0
 # Where an account has signed in; root is 0.
 _SIGNED_IN = re.compile(r"user-[1-9][0-9]*\.slice", re.ASCII)
@@ -40,16 +39,18 @@ def _is_anothers() -> bool:
 
 
 def _moved() -> str:
-    """What systemd says where it doesn't take this process into a scope."""
-    name = f"rooms-admin-{os.getpid()}.scope"
+    """What systemd says where it makes no scope for this process. It is asked at its own socket,
+    which is root's: any account can take all connections that the system's bus has."""
+    into = "; ".join(f"[ -e {one}/cgroup.procs ] && exec tee {one}$at/cgroup.procs"
+                     for one in _PLACES)
+    words = ["systemd-run", "--scope", "--quiet", "--collect", "--slice=system.slice",
+             f"--unit=rooms-admin-{os.getpid()}", "--", "sh", "-c",
+             f"at=$(sed -n s/^0:://p /proc/self/cgroup); {into}"]
     try:
-        done = commands.run([
-            "busctl", "call", _SYSTEMD, f"/{_SYSTEMD.replace('.', '/')}", f"{_SYSTEMD}.Manager",
-            "StartTransientUnit", "ssa(sv)a(sa(sv))", name, "fail",
-            "1", "PIDs", "au", "1", str(os.getpid()), "0"])
+        done = commands.run(words, str(os.getpid()).encode())
     except OSError as fault:
-        return f"no busctl: {fault.strerror}"
-    return done.said if done.status else ""
+        return f"no systemd-run: {fault.strerror}"
+    return done.said or f"status {done.status}" if done.status else ""
 
 
 def leave_anothers() -> None:

@@ -62,11 +62,25 @@ def _memory(room: Room) -> int | None:
 
 
 def _allowed(unit: str) -> int | None:
-    """What MemoryMax of a unit allows; None is without end, or a unit that isn't there."""
-    status, most = systemctl("show", "-p", "MemoryMax", "--value", unit)
-    if status != 0:
-        raise Stop(f"systemctl doesn't say what MemoryMax of {unit} is")
+    """What MemoryMax of a unit allows; None is without end, or a unit that isn't there. Of one that
+    runs the kernel says it: the watch over a room's size isn't root, and may find all connections
+    of the system's bus taken, by which it would ask systemd."""
+    most = _of_group(unit)
+    if not most:
+        status, most = systemctl("show", "-p", "MemoryMax", "--value", unit)
+        if status != 0:
+            raise Stop(f"systemctl doesn't say what MemoryMax of {unit} is")
     return int(most) >> 20 if most.isascii() and most.isdigit() else None
+
+
+def _of_group(unit: str) -> str:
+    """Nothing where it doesn't run, or elsewhere."""
+    place = _SLICE if unit == _SLICE else f"{_SLICE}/{unit.removesuffix('.service')}.service"
+    try:
+        with open(f"{root.ROOT}/sys/fs/cgroup/{place}/memory.max", encoding="ascii") as source:
+            return source.read().strip()
+    except OSError:
+        return ""
 
 
 def _count() -> int:
