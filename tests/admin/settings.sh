@@ -11,6 +11,9 @@ printf '%s\n' '# a comment' FILE=/var/lib/rooms/office.rooms BACKUPS=/var/backup
   '# of KEEP' KEEP=7 TITLE=office HOURS=0 >$conf
 printf '%s\n' TITLE=Bills ON=b.example PORT=8443 >machine/etc/rooms/bills.on
 printf '%s\n' HOSTS=rooms.example CERTIFICATE= KEY= >machine/etc/rooms/site
+# What a room on another machine needs.
+mkdir machine/etc/rooms/machines
+touch machine/etc/rooms/machines/{front.pem,front.key,authority.pem}
 chmod 640 $conf
 sets() { # WORD ..
   "$repo/admin/rooms-admin" set --destdir "$PWD/machine" "$@" >"$work/out" 2>"$work/err" </dev/null
@@ -67,6 +70,38 @@ told 'two lines' 2 "isn't NAME=VALUE"
 same 'nothing is changed' $conf before
 sets REVIEW=/audit REVIEWER=alice
 told 'both of two' 0 'with REVIEW=/audit, REVIEWER=alice'
+# What setup would refuse isn't written, with who is asked for passwords before anybody is set up.
+cp $conf before
+sets PASSWORDS=directory
+told 'a directory that nobody has set up' 2 'no directory: PASSWORDS=directory of office has none' \
+  'docs/directory.md, and then rooms-admin setup --directory /etc/rooms/directory'
+same 'nothing is changed' $conf before
+sets --dry-run PASSWORDS=directory
+told 'nor would be' 2 'no directory: PASSWORDS=directory of office has none'
+sets PASSWORDS=session
+told 'sessions without TLS' 2 'PASSWORDS=session in ' 'needs TLS'
+sets --site CERTIFICATE=/etc/ssl/rooms.pem KEY=/etc/ssl/rooms.key
+told 'TLS' 0 'it counts after: rooms-admin setup'
+sets PASSWORDS=session
+told 'sessions of nobody' 2 'no sessions: PASSWORDS=session of office has none yet' \
+  '/etc/rooms/session.apache and its unit first, as docs/directory.md has them'
+same 'nor are they written' $conf before
+touch machine/etc/rooms/{session,directory}.apache
+sets PASSWORDS=session
+told 'sessions' 0 'new file /etc/rooms/office.conf, with PASSWORDS=session'
+sets --site CERTIFICATE= KEY=
+told 'no TLS any more, while there are some' 2 'PASSWORDS=session in ' 'needs TLS'
+sets PASSWORDS=directory
+told 'a directory' 0 'new file /etc/rooms/office.conf, with PASSWORDS=directory'
+rm machine/etc/rooms/session.apache
+sets --site CERTIFICATE= KEY=
+told 'and without TLS' 0 'it counts after: rooms-admin setup'
+# By hand anything is written: what mends one of two things is taken, and says the other.
+echo HOST=rooms.example >>$conf
+sets DRIVE=yes
+told 'what was refused before' 0 'host in use: HOST in '
+sets HOST= DRIVE=no PASSWORDS=
+told 'mended' 0 'new file /etc/rooms/office.conf'
 sets --room bills PASSWORDS=directory
 told 'a room elsewhere' 0 'new file /etc/rooms/bills.on, with PASSWORDS=directory' \
   'it counts after: rooms-admin setup'
@@ -78,15 +113,16 @@ sets --site 'HOSTS=docs.example rooms.example'
 told 'the site' 0 'it counts after: rooms-admin setup'
 is 'has its own' site 'HOSTS=docs.example rooms.example' CERTIFICATE= KEY=
 sets HOST=rooms.example
-told 'a host that is in use' 0 'host in use: HOST in '
+told 'a host that is in use' 2 'host in use: HOST in '
 sets HOST=
-told 'and no longer' 0 'it counts after: rooms-admin setup'
+told 'as it was' 0 'nothing to change'
 holds 'of which nothing is said' [ ! -s "$work/err" ]
 sets --site CERTIFICATE=/etc/ssl/rooms.pem
 told 'half a pair' 2 'CERTIFICATE and KEY in /etc/rooms/site need one another'
 sets --site --room office KEEP=3
 told 'both' 2 'not allowed with argument'
-holds 'nothing else is left' [ "$(cd machine/etc/rooms && echo *)" = 'bills.on office.conf site' ]
+holds 'nothing else is left' \
+  [ "$(cd machine/etc/rooms && echo *.*)" = 'bills.on directory.apache office.conf' ]
 holds 'nor hidden' [ -z "$(find machine -name '.*')" ]
 
 # Where no backup can come, it is said now, and not at night.

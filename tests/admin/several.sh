@@ -265,7 +265,8 @@ cat machine/etc/rooms/nginx/*/mine.conf >got
 printf '# mine\n# mine\n' >wanted
 same 'they stay' got wanted
 # Settings that can't be.
-for wrong in PASSWORDS=ldap HOST=a_b BEHIND=maybe PORT=0 OTHER=x HOST=rooms.example; do
+for wrong in PASSWORDS=ldap HOST=a_b BEHIND=maybe PORT=0 OTHER=x HOST=rooms.example \
+  PASSWORDS=directory; do
   cp machine/etc/rooms/hr.conf hr.conf
   printf '%s\n' "$wrong" >>machine/etc/rooms/hr.conf
   tree >before
@@ -274,6 +275,7 @@ for wrong in PASSWORDS=ldap HOST=a_b BEHIND=maybe PORT=0 OTHER=x HOST=rooms.exam
     case $wrong in
       OTHER=*) echo 'has none of' ;;
       HOST=rooms*) echo 'host in use' ;;
+      *=directory) echo 'no directory: PASSWORDS=directory of hr has none yet' ;;
       *) echo "bad settings: ${wrong%%=*}" ;;
     esac
   )"

@@ -139,6 +139,7 @@ admin add hr alice staff
 sets hr OWN_PASSWORDS no
 sets hr PORT "$port"
 admin add sales alice staff
+touch machine/etc/rooms/directory.apache
 sets sales PASSWORDS directory
 admin setup
 holds 'other rooms' [ "$status" = 0 ]

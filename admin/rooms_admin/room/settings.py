@@ -3,7 +3,8 @@ import functools
 import os
 import re
 import stat
-from collections.abc import Callable, Iterable
+from collections.abc import Callable, Iterable, Iterator
+from contextlib import contextmanager
 from dataclasses import dataclass, field, fields
 from typing import Any
 
@@ -20,9 +21,25 @@ PROGRAM = os.path.join(_HERE.removesuffix("/share/rooms/rooms_admin")
                        "bin/rooms")
 
 
+# What files would say.
+_supposed: dict[str, str] = {}
+
+
+@contextmanager
+def supposed(path: str, text: str) -> Iterator[None]:
+    """Meanwhile each reader has this text of a file, which isn't written."""
+    _supposed[path] = text
+    try:
+        yield
+    finally:
+        del _supposed[path]
+
+
 def _text(path: str) -> str:
     """Programs that settings name run as whoever reads them. So they are root's, or the caller's
     own, and nobody else can write to them. What is looked at is what is read."""
+    if path in _supposed:
+        return _supposed[path]
     try:
         with open(os.open(path, os.O_RDONLY | os.O_NONBLOCK | os.O_CLOEXEC), encoding="utf-8",
                   errors="surrogateescape", newline="\n") as source:
@@ -475,24 +492,3 @@ def directory(path: str) -> Directory:
     if found.secret and os.stat(found.secret).st_mode & 0o077:
         raise Refused(f"not secret: others can read {found.secret}: chmod 600 {found.secret}")
     return found
-
-
-def groups(path: str) -> tuple[dict[str, str], int]:
-    """Lines 'group NAME = WHAT', where WHAT is what the directory calls it; and MOST."""
-    found, most = dict[str, str](), "10"
-    for number, line in lines(path):
-        if line.startswith("MOST="):
-            most = line.removeprefix("MOST=")
-            continue
-        name, equals, what = line.removeprefix("group ").partition(" = ")
-        if not line.startswith("group ") or not equals or not what:
-            raise Refused(f"bad settings: {path}, line {number} is neither 'group NAME = WHAT' "
-                          "nor MOST=")
-        if not is_user(name):
-            raise Refused(f"bad settings: {path}, line {number}: '{name}' can't be a group of a "
-                          "room")
-        found[name] = what
-    if not found:
-        raise Refused(f"bad settings: {path} names no group")
-    need(matches(r"[0-9]{1,6}", most), path, "MOST", "a number", most)
-    return found, int(most)
