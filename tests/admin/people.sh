@@ -403,8 +403,8 @@ echo '{"mine":"of invoices"}' >"${web%/*}/invoices/mine/bob.json"
 echo '{"mine":"of others"}' >"${web%/*}/invoices/mine/*.json"
 cp -r "${web%/*}/invoices" "${web%/*}/hr"
 admin setup
-admin add --port $((port + 5)) invoices
-admin add --port $((port + 6)) --host invoices.example hr
+admin add invoices
+admin add --host invoices.example hr
 start_front 'names behind nginx' || return
 for target in people mine; do
   ask "/$target without a password" 401 - '' "/$target"

@@ -96,6 +96,30 @@ told 'a directory' 0 'new file /etc/rooms/office.conf, with PASSWORDS=directory'
 rm machine/etc/rooms/session.apache
 sets --site CERTIFICATE= KEY=
 told 'and without TLS' 0 'it counts after: rooms-admin setup'
+# What one room alone can have, and what none can.
+printf '%s\n' FILE=/var/lib/rooms/hr.rooms BACKUPS=/b PORT=8790 >machine/etc/rooms/hr.conf
+printf '%s\n' FILE=/var/lib/rooms/old.rooms BACKUPS=/b UNIT=old >machine/etc/rooms/old.conf
+cp $conf before
+for wrong in \
+  "another room's file;FILE=/var/lib/rooms/hr.rooms;file in use: ;hr.conf has /var/lib/rooms/hr.r" \
+  "also by another way;FILE=/var/lib/rooms/./hr.rooms;file in use: ;office.conf has to be another" \
+  "or of a unit of one's own;FILE=/var/lib/rooms/old.rooms;file in use: ;old.conf has to be anoth" \
+  "the port of nginx;PORT=443;bad settings: PORT in ;isn't one of 8780 to 8998, which the firew" \
+  "that of an Apache;PORT=8778;bad settings: PORT in ;isn't one of 8780 to 8998" \
+  "another room's port;PORT=8790;port in use: ;hr.conf has 8790" \
+  "no day;EARLIER_FROM=2026-13-40;bad settings: EARLIER_FROM in ;isn't a day or the name of a b" \
+  "no time;EARLIER_FROM=2026-11-20.990000;bad settings: EARLIER_FROM in ;isn't a day or the n"; do
+  IFS=';' read -r name value text more <<<"$wrong"
+  sets "$value"
+  told "$name" 2 "$text" "$more"
+  same "$name: nothing is changed" $conf before
+done
+sed '$ a UNIT=rooms@office' $conf >machine/etc/rooms/copy-of-office.conf
+sets PORT=8998 EARLIER_FROM=2026-11-20.030000
+told 'what can be' 0 'with PORT=8998, EARLIER_FROM=2026-11-20.030000'
+sets PORT= EARLIER_FROM=
+told 'or nothing' 0 'with PORT=, EARLIER_FROM='
+rm machine/etc/rooms/{hr,old,copy-of-office}.conf
 # By hand anything is written: what mends one of two things is taken, and says the other.
 echo HOST=rooms.example >>$conf
 sets DRIVE=yes

@@ -26,27 +26,6 @@ GROUPS_IN_ONE = 10000
 _TOLD, _LONG = 50, 200
 
 
-def _named(path: str) -> tuple[dict[str, str], int]:
-    """Lines 'group NAME = WHAT', where WHAT is what the directory calls it; and MOST."""
-    found, most = dict[str, str](), "10"
-    for number, line in settings.lines(path):
-        if line.startswith("MOST="):
-            most = line.removeprefix("MOST=")
-            continue
-        name, equals, what = line.removeprefix("group ").partition(" = ")
-        if not line.startswith("group ") or not equals or not what:
-            raise Refused(f"bad settings: {path}, line {number} is neither 'group NAME = WHAT' "
-                          "nor MOST=")
-        if not names.is_user(name):
-            raise Refused(f"bad settings: {path}, line {number}: '{name}' can't be a group of a "
-                          "room")
-        found[name] = what
-    if not found:
-        raise Refused(f"bad settings: {path} names no group")
-    settings.need(settings.matches(r"[0-9]{1,6}", most), path, "MOST", "a number", most)
-    return found, int(most)
-
-
 class NoGroup(Refused):
     """The directory hasn't that one, or several."""
 
@@ -217,7 +196,7 @@ class Run:
                           "them by --dry-run, and --force if that is meant")
 
     def bring(self) -> None:
-        groups, most = _named(self.room.beside(".groups"))
+        groups, most = settings.groups(self.room.beside(".groups"))
         wanted = self.ask(groups)
         now = self.known()
         if now is None and self.dry:

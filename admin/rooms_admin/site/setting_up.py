@@ -8,7 +8,7 @@ import tempfile
 from pwd import getpwnam, struct_passwd
 
 from ..host import changes, commands
-from ..room import program as runs, settings
+from ..room import forms, program as runs, settings
 from ..passwords import passwords
 from ..directory import directory, guests
 from . import apache, apply, password_files, template, values
@@ -144,7 +144,7 @@ def look_at_pair(made: Changes, certificate: str, key: str) -> tuple[str, str]:
             raise Refused(f"no file: {path} doesn't exist")
         if not os.access(path, os.R_OK):
             raise Refused(f"no file: {path} can't be read")
-        if not settings.matches(r"[-A-Za-z0-9._/+@,=:]+", path):
+        if not forms.matches(r"[-A-Za-z0-9._/+@,=:]+", path):
             raise Refused(f"bad name: '{path}' has other characters than "
                           "A-Z a-z 0-9 - . _ / + @ , = :")
     wanted = _pem(certificate, "x509", "-noout", "-pubkey")
