@@ -243,6 +243,18 @@ settings
 timer=rooms-directory@office.timer
 ln -s nowhere "root/etc/systemd/system/timers.target.wants/$timer"
 checks 'groups that never came' 1 "$timer has never run"
+# systemd makes the stamp when the timer starts, some hours before its first run.
+touch "root/var/lib/systemd/timers/stamp-$timer"
+checks 'a timer that was just made' 0 "$timer has never run"
+cat >stand/bin/stat <<END
+#!/bin/sh
+case "\$*" in *"/timers/stamp-$timer") cat "$PWD/born" ;; *) exec /usr/bin/stat "\$@" ;; esac
+END
+chmod 755 stand/bin/stat
+date -d '30 hours ago' +%s >born
+touch -d "@$(<born)" "root/var/lib/systemd/timers/stamp-$timer"
+checks 'one that was to run last night' 1 "$timer has never run"
+date -d '3 days ago' +%s >born
 touch -d '2 hours ago' "root/var/lib/systemd/timers/stamp-$timer"
 checks 'groups of tonight' 0 'groups 2 h ago'
 touch -d '30 hours ago' "root/var/lib/systemd/timers/stamp-$timer"
@@ -250,7 +262,7 @@ checks 'groups of another night' 1 'groups 30 h ago'
 touch -d '30 hours' "root/var/lib/systemd/timers/stamp-$timer"
 checks 'groups of a clock that was ahead' 1 \
   "$timer has never run since the clock was set back: systemctl restart $timer"
-rm "root/etc/systemd/system/timers.target.wants/$timer"
+rm "root/etc/systemd/system/timers.target.wants/$timer" stand/bin/stat
 
 # How many may be connected, as nginx's own file says it; without a line nginx has 512.
 conf=root/etc/nginx/nginx.conf
