@@ -11,6 +11,7 @@ undoes nothing of what somebody else changed meanwhile. It prints each pair that
 --new.
 
 remove looks first: where nobody is called so it ends with 1, and where there is no HEIR with 2.
+It says so where nobody but the user may set the list of /.
 
 list prints everybody who has a password or is in a group, as far as groups are known while the
 server runs: a line with the name, whether there is a password, and the groups. With --json it is a
