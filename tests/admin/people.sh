@@ -90,6 +90,10 @@ printf '%s\n' 'bob,Bob Lindqvist' 'eve,"Moreau, Eve"' 'zoe,Not here' >office.nam
 room_verb people
 ended_well 'full names'
 people_are 'of users alone' "${few%\{\}\}}{\"bob\":\"Bob Lindqvist\",\"eve\":\"Moreau, Eve\"}}"
+printf '%s\n' 'bob;Bob Lindqvist' 'eve;Moreau, Eve' 'zoe;Not here' >office.names
+room_verb people
+ended_well 'full names with semicolons'
+people_are 'are the same' "${few%\{\}\}}{\"bob\":\"Bob Lindqvist\",\"eve\":\"Moreau, Eve\"}}"
 printf '%s\n' 'bob' 'eve,Eve' >office.names
 room_verb people
 says 'a line without a name' 1 "bad names: $PWD/office.names, line 1 isn't LOGIN,FULL NAME"
