@@ -187,3 +187,32 @@ printf '%s\n' FILE=/F BACKUPS=/b KEEP=1 >unread/etc/rooms/office.conf
 holds 'a change that nobody reads' [ "$(cat status)" = 0 ]
 holds 'is done whole' \
   [ "$(tail -n 2 unread/etc/rooms/office.conf | tr '\n' ' ')" = 'KEEP=2 HOURS=3 ' ]
+
+# Nor does whoever closes a standard stream: what is opened next isn't taken for it, and a verb that
+# had something to print ends with 1.
+admin() { "$repo/admin/rooms-admin" "$@"; }
+closed() { # STREAMS STATUS WORD ..: with these streams closed, of i, o, e
+  local name="closed: $1 of $3"
+  (
+    exec >"$work/out" 2>"$work/err" </dev/null
+    case $1 in *i*) exec <&- ;; esac
+    case $1 in *o*) exec >&- ;; esac
+    case $1 in *e*) exec 2>&- ;; esac
+    admin "${@:3}"
+  )
+  status=$?
+  holds "$name: status $status" [ "$status" = "$2" ]
+  holds "$name: no traceback" [ "$(cat "$work/out" "$work/err" | grep -c Traceback)" = 0 ]
+}
+for streams in i o e io ie oe ioe; do
+  case $streams in *o*) lost=1 ;; *) lost=0 ;; esac
+  closed "$streams" $lost help set
+  closed "$streams" $lost set --destdir "$PWD/unread" --dry-run KEEP=9
+  closed "$streams" 2 set --destdir "$PWD/unread" KEEP=x
+  closed "$streams" 1 doctor --program "$rooms" "$PWD/none/F"
+  closed "$streams" 2 user add eve --room "$PWD/none.conf"
+  closed "$streams" 2 list set / --room "$PWD/none.conf"
+  ROOMS_SETTINGS=$PWD/none closed "$streams" 2 check
+done
+closed o 1 help set
+told 'which is said' 1 'failed: standard output is closed, so nobody has what was printed'

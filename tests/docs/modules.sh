@@ -46,6 +46,7 @@ only 'it is said how long a room may take' '\bANSWER(_SECONDS)? = |_timeout [0-9
 only 'a setting has its form' 'setting\("[A-Z_]+",|yes\("[A-Z_]+"\)' room/settings
 only 'what a terminal would obey is written in another way' \
   'ascii\(one\)\[' cli/report
+only 'it is seen whether a stream is closed' 'sys[.]std[a-z]+ is (not )?None' cli/output
 only 'what of a name is seen is said' 'isprintable\(\) (else|or|and)|table\("invisible' cli/signs
 only "a backup's name is read as a moment" '\bmktime\(|%Y-%m-%d[.]%H%M%S"' backup/backups
 only "a room's name is that of its settings" 'removesuffix\("[.]conf"\)' room/settings
