@@ -200,6 +200,25 @@ echo yes >private
 checks 'some of them' 0 'rooms OK'
 rm -r root/proc
 
+# Rooms on another machine, of which this one has the place.
+mkdir -p root/etc/rooms/machines
+printf '%s\n' TITLE=Bills ON=localhost PORT=1 >root/etc/rooms/bills.on
+checks 'a room elsewhere, without certificates' 2 \
+  'bills: /etc/rooms/machines has no certificate that can be used: '
+openssl req -x509 -newkey ec -pkeyopt ec_paramgen_curve:P-256 -noenc -subj /CN=rooms-front \
+  -days 99 -keyout root/etc/rooms/machines/front.key -out root/etc/rooms/machines/front.pem \
+  2>/dev/null
+cp root/etc/rooms/machines/{front,authority}.pem
+checks 'one that is away' 2 "bills: localhost doesn't answer at 1: "
+words=(--room office)
+checks 'another one that is named' 0 'rooms OK - office'
+words=(--room bills)
+checks 'one that is named' 2 "rooms CRITICAL - bills: localhost doesn't answer at 1: "
+words=()
+echo HOURS=1 >>root/etc/rooms/bills.on
+checks 'one with settings that it has not' 2 'bills: bad settings: '
+rm -r root/etc/rooms/{bills.on,machines}
+
 # Units, timers, mail, groups.
 echo 'rooms-standby@office.service loaded failed failed Standby copy' >failed
 checks 'a unit that failed' 2 'failed: rooms-standby@office.service: systemctl status says why; '

@@ -19,11 +19,12 @@ from ..host.commands import printed
 from ..room.settings import Room
 from ..room.size import NoRoom, Used
 from .finding import CRITICAL, OK, WARNING, Finding
-from .front import see_front
+from .front import FAR, see_front, see_machine, see_there
 
 HOUR = 3600
 # Seconds. Whoever a server or nginx is by now could answer so slowly that it never ends.
 PATIENCE = 150
+_FAR = 3 * FAR
 # Less than this is a full disk: twice the largest document, in the log and on its way.
 FULL = 16 << 20
 # The clocks of a disk and of the machine may differ by so much.
@@ -379,6 +380,16 @@ def see_certificates() -> list[Finding]:
     return [*map(certificates.see_certificate, wanted),
             *((WARNING, said) for file in certificates.site_certificates()
               for said in (served.see_names(file), served.see_renewal(file)) if said)]
+
+
+def of_place(path: str, machines: dict[str, list[Finding]]) -> list[Finding]:
+    """A room on another machine, which knows all else of it. One machine that is away isn't waited
+    for again by the next room."""
+    place = settings.place(path)
+    machine = f"{place.on}:{place.port}"
+    if machine not in machines:
+        machines[machine] = within(_FAR, lambda: see_machine(place), machine)
+    return machines[machine] or within(_FAR, lambda: see_there(place), machine)
 
 
 def of_room(conf: str) -> list[Finding]:
