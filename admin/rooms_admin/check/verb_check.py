@@ -1,5 +1,5 @@
 """Whether all is well, in one line, for monitoring: 0 if so, 1 with a warning, 2 where something is
-critical. Nothing is changed.
+critical. Nothing is changed. A room on another machine is asked there, as nginx does.
 
 With --json it is a list of objects with the names 'room', 'level' and 'text', one for each thing
 that was seen: 'level' is 'ok', 'warning' or 'critical', and 'room' is empty for the machine."""

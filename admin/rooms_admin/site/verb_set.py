@@ -1,6 +1,7 @@
 """Settings of a room, or of the site, by their names: each is put in the place of its last line, or
-at the end, and all other lines stay. What the file would say then is looked at first, so nothing
-that a verb would refuse is written. Last it prints what has to be done so that they count."""
+at the end, and all other lines stay. What the file would say then is looked at first, together with
+those of all rooms, so nothing that a verb would refuse is written. Last it prints what has to be
+done so that they count."""
 import argparse
 import os
 

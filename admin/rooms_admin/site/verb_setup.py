@@ -1,4 +1,4 @@
-"""setup: the user, the folders, the settings of the room office, and nginx's site as the settings
+"""Makes the users, the folders, the settings of the room office, and nginx's site, as the settings
 of all rooms say. It makes, opens and changes no room. A second run changes nothing."""
 import argparse
 
