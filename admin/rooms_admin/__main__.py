@@ -93,23 +93,17 @@ def _asked(words: list[str], verb: str) -> int:
     return _run(verb, words)
 
 
-def _flush() -> None:
-    """There is no output where whoever calls has closed it."""
-    if sys.stdout is not None:
-        sys.stdout.flush()
-
-
 def _let_go_of_output() -> None:
     """What can't be written isn't tried once more at the very end, where Python would tell of it
     with a status of its own."""
     try:
-        _flush()
+        sys.stdout.flush()
     except OSError:
         os.dup2(os.open(os.devnull, os.O_WRONLY | os.O_CLOEXEC), sys.stdout.fileno())
 
 
 def main(words: list[str] | None = None, name: str = "") -> int:
-    output.open_both()
+    output.open_all()
     report.catch_signals()
     # Where whoever began this hears of no child that ends, each would seem to have ended well.
     signal.signal(signal.SIGCHLD, signal.SIG_DFL)
@@ -123,8 +117,8 @@ def main(words: list[str] | None = None, name: str = "") -> int:
         if verb:
             print(f"{name}: its name is now rooms-admin {verb}", file=sys.stderr)
         status = _asked(words, verb)
-        _flush()
-        return status
+        sys.stdout.flush()
+        return output.ended(status)
     except report.Stop as stop:
         # What failed first, where bringing things back has failed too.
         if isinstance(stop.__context__, report.Stop) and not stop.__suppress_context__:

@@ -200,6 +200,25 @@ echo yes >private
 checks 'some of them' 0 'rooms OK'
 rm -r root/proc
 
+# Rooms on another machine, of which this one has the place.
+mkdir -p root/etc/rooms/machines
+printf '%s\n' TITLE=Bills ON=localhost PORT=1 >root/etc/rooms/bills.on
+checks 'a room elsewhere, without certificates' 2 \
+  'bills: /etc/rooms/machines has no certificate that can be used: '
+openssl req -x509 -newkey ec -pkeyopt ec_paramgen_curve:P-256 -noenc -subj /CN=rooms-front \
+  -days 99 -keyout root/etc/rooms/machines/front.key -out root/etc/rooms/machines/front.pem \
+  2>/dev/null
+cp root/etc/rooms/machines/{front,authority}.pem
+checks 'one that is away' 2 "bills: localhost doesn't answer at 1: "
+words=(--room office)
+checks 'another one that is named' 0 'rooms OK - office'
+words=(--room bills)
+checks 'one that is named' 2 "rooms CRITICAL - bills: localhost doesn't answer at 1: "
+words=()
+echo HOURS=1 >>root/etc/rooms/bills.on
+checks 'one with settings that it has not' 2 'bills: bad settings: '
+rm -r root/etc/rooms/{bills.on,machines}
+
 # Units, timers, mail, groups.
 echo 'rooms-standby@office.service loaded failed failed Standby copy' >failed
 checks 'a unit that failed' 2 'failed: rooms-standby@office.service: systemctl status says why; '
@@ -243,6 +262,18 @@ settings
 timer=rooms-directory@office.timer
 ln -s nowhere "root/etc/systemd/system/timers.target.wants/$timer"
 checks 'groups that never came' 1 "$timer has never run"
+# systemd makes the stamp when the timer starts, some hours before its first run.
+touch "root/var/lib/systemd/timers/stamp-$timer"
+checks 'a timer that was just made' 0 "$timer has never run"
+cat >stand/bin/stat <<END
+#!/bin/sh
+case "\$*" in *"/timers/stamp-$timer") cat "$PWD/born" ;; *) exec /usr/bin/stat "\$@" ;; esac
+END
+chmod 755 stand/bin/stat
+date -d '30 hours ago' +%s >born
+touch -d "@$(<born)" "root/var/lib/systemd/timers/stamp-$timer"
+checks 'one that was to run last night' 1 "$timer has never run"
+date -d '3 days ago' +%s >born
 touch -d '2 hours ago' "root/var/lib/systemd/timers/stamp-$timer"
 checks 'groups of tonight' 0 'groups 2 h ago'
 touch -d '30 hours ago' "root/var/lib/systemd/timers/stamp-$timer"
@@ -250,7 +281,7 @@ checks 'groups of another night' 1 'groups 30 h ago'
 touch -d '30 hours' "root/var/lib/systemd/timers/stamp-$timer"
 checks 'groups of a clock that was ahead' 1 \
   "$timer has never run since the clock was set back: systemctl restart $timer"
-rm "root/etc/systemd/system/timers.target.wants/$timer"
+rm "root/etc/systemd/system/timers.target.wants/$timer" stand/bin/stat
 
 # How many may be connected, as nginx's own file says it; without a line nginx has 512.
 conf=root/etc/nginx/nginx.conf

@@ -288,7 +288,7 @@ ask 'another site still is one' 403 - \
   root:r /doc/new -X PUT --data-binary x -H 'Origin: http://elsewhere.example'
 ask 'nobody without a password reads' 401 - '' /doc/doc/d
 # Another room of the same nginx isn't full.
-admin add --port $((port + 5)) invoices
+admin add invoices
 take_front
 printf 'root:{PLAIN}r\n' >rooms-invoices.htpasswd
 second() {

@@ -209,6 +209,15 @@ transfers import --as eve --room "$room" tree /in
 told 'import by a stranger' 1 \
   '/in: not made: 403' 'nothing of tree was sent: there is no folder /in' \
   'made 0, replaced 0, there already 0, left out 1'
+# Nobody's reply says who asked.
+transfers import --room "$room" tree /in
+told 'import by nobody' 1 '/in: not made: 403' \
+  'asked as a caller without a name, who may not: --as NAME asks as a user of the room, for root'
+transfers export --room "$room" / nobody
+told 'export by nobody' 1 'asked as a caller without a name, who may not: --as NAME'
+holds 'is told once' [ "$(grep -c 'asked as' "$work/err")" = 1 ]
+transfers import --as eve --room "$room" tree /in
+holds 'and not to who is called' [ "$(grep -c 'asked as' "$work/err")" = 0 ]
 
 # The folders above PATH come with it. Where one can't be made, that is told once.
 transfers import --as root --room "$room" 'tree/a b' '/new/a b/%2F'

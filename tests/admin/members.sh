@@ -172,6 +172,10 @@ for line in 'x y;z' 'staff' 'staff;bob;carol'; do
   room_verb members "$PWD/bad.csv"
   says "no pair: $line" 2 "bad names: $PWD/bad.csv, line 2 isn't GROUP,USER"
 done
+printf '%s\n' 'group;user,of' 'staff;bob' >bad.csv
+room_verb members "$PWD/bad.csv"
+says 'a heading with both' 2 \
+  "bad names: $PWD/bad.csv, line 1 has commas and semicolons, and only one of both can stand"
 room_verb members "$PWD/missing.csv"
 says 'no file' 2 "no names: $PWD/missing.csv can't be read"
 room_verb members --new

@@ -90,11 +90,31 @@ printf '%s\n' 'bob,Bob Lindqvist' 'eve,"Moreau, Eve"' 'zoe,Not here' >office.nam
 room_verb people
 ended_well 'full names'
 people_are 'of users alone' "${few%\{\}\}}{\"bob\":\"Bob Lindqvist\",\"eve\":\"Moreau, Eve\"}}"
+printf '%s\n' 'bob;Bob Lindqvist' 'eve;Moreau, Eve' 'zoe;Not here' >office.names
+room_verb people
+ended_well 'full names with semicolons'
+people_are 'are the same' "${few%\{\}\}}{\"bob\":\"Bob Lindqvist\",\"eve\":\"Moreau, Eve\"}}"
 printf '%s\n' 'bob' 'eve,Eve' >office.names
 room_verb people
 says 'a line without a name' 1 "bad names: $PWD/office.names, line 1 isn't LOGIN,FULL NAME"
 people_are 'keeps no other out' "${few%\{\}\}}{\"eve\":\"Eve\"}}"
 rm office.names
+# Who alone manages the room is told before it is too late, by what the program says of the root.
+room_verb user remove alice --dry-run
+says 'the last one who sets the list of the root' 0 \
+  'nobody but alice may set the list of /: without alice root alone can, by rooms-admin list set /'
+room_verb user remove bob --dry-run
+ended_well 'somebody else'
+holds 'is nobody of whom that is said' [ "$(grep -c 'nobody but' "$work/err")" = 0 ]
+root_list() { # ENTRY ..
+  printf '%s\n' list:a "A:fd:alice:$ALL" D:d:EVERYONE@:Dd A::AUTHENTICATED@:xt A:g:staff:r "$@" |
+    as_user "$rooms" reset "$PWD/office/F" / dacl >"$work/out"
+}
+root_list A:g:clerks:C
+room_verb user remove alice --dry-run
+ended_well 'one of two'
+holds 'is not told either' [ "$(grep -c 'nobody but' "$work/err")" = 0 ]
+root_list
 # Where a directory checks passwords there is no such file.
 mv "$passwords" kept
 room_verb people
@@ -403,8 +423,8 @@ echo '{"mine":"of invoices"}' >"${web%/*}/invoices/mine/bob.json"
 echo '{"mine":"of others"}' >"${web%/*}/invoices/mine/*.json"
 cp -r "${web%/*}/invoices" "${web%/*}/hr"
 admin setup
-admin add --port $((port + 5)) invoices
-admin add --port $((port + 6)) --host invoices.example hr
+admin add invoices
+admin add --host invoices.example hr
 start_front 'names behind nginx' || return
 for target in people mine; do
   ask "/$target without a password" 401 - '' "/$target"

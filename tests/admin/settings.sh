@@ -11,6 +11,9 @@ printf '%s\n' '# a comment' FILE=/var/lib/rooms/office.rooms BACKUPS=/var/backup
   '# of KEEP' KEEP=7 TITLE=office HOURS=0 >$conf
 printf '%s\n' TITLE=Bills ON=b.example PORT=8443 >machine/etc/rooms/bills.on
 printf '%s\n' HOSTS=rooms.example CERTIFICATE= KEY= >machine/etc/rooms/site
+# What a room on another machine needs.
+mkdir machine/etc/rooms/machines
+touch machine/etc/rooms/machines/{front.pem,front.key,authority.pem}
 chmod 640 $conf
 sets() { # WORD ..
   "$repo/admin/rooms-admin" set --destdir "$PWD/machine" "$@" >"$work/out" 2>"$work/err" </dev/null
@@ -67,6 +70,62 @@ told 'two lines' 2 "isn't NAME=VALUE"
 same 'nothing is changed' $conf before
 sets REVIEW=/audit REVIEWER=alice
 told 'both of two' 0 'with REVIEW=/audit, REVIEWER=alice'
+# What setup would refuse isn't written, with who is asked for passwords before anybody is set up.
+cp $conf before
+sets PASSWORDS=directory
+told 'a directory that nobody has set up' 2 'no directory: PASSWORDS=directory of office has none' \
+  'docs/directory.md, and then rooms-admin setup --directory /etc/rooms/directory'
+same 'nothing is changed' $conf before
+sets --dry-run PASSWORDS=directory
+told 'nor would be' 2 'no directory: PASSWORDS=directory of office has none'
+sets PASSWORDS=session
+told 'sessions without TLS' 2 'PASSWORDS=session in ' 'needs TLS'
+sets --site CERTIFICATE=/etc/ssl/rooms.pem KEY=/etc/ssl/rooms.key
+told 'TLS' 0 'it counts after: rooms-admin setup'
+sets PASSWORDS=session
+told 'sessions of nobody' 2 'no sessions: PASSWORDS=session of office has none yet' \
+  '/etc/rooms/session.apache and its unit first, as docs/directory.md has them'
+same 'nor are they written' $conf before
+touch machine/etc/rooms/{session,directory}.apache
+sets PASSWORDS=session
+told 'sessions' 0 'new file /etc/rooms/office.conf, with PASSWORDS=session'
+sets --site CERTIFICATE= KEY=
+told 'no TLS any more, while there are some' 2 'PASSWORDS=session in ' 'needs TLS'
+sets PASSWORDS=directory
+told 'a directory' 0 'new file /etc/rooms/office.conf, with PASSWORDS=directory'
+rm machine/etc/rooms/session.apache
+sets --site CERTIFICATE= KEY=
+told 'and without TLS' 0 'it counts after: rooms-admin setup'
+# What one room alone can have, and what none can.
+printf '%s\n' FILE=/var/lib/rooms/hr.rooms BACKUPS=/b PORT=8790 >machine/etc/rooms/hr.conf
+printf '%s\n' FILE=/var/lib/rooms/old.rooms BACKUPS=/b UNIT=old >machine/etc/rooms/old.conf
+cp $conf before
+for wrong in \
+  "another room's file;FILE=/var/lib/rooms/hr.rooms;file in use: ;hr.conf has /var/lib/rooms/hr.r" \
+  "also by another way;FILE=/var/lib/rooms/./hr.rooms;file in use: ;office.conf has to be another" \
+  "or of a unit of one's own;FILE=/var/lib/rooms/old.rooms;file in use: ;old.conf has to be anoth" \
+  "the port of nginx;PORT=443;bad settings: PORT in ;isn't one of 8780 to 8998, which the firew" \
+  "that of an Apache;PORT=8778;bad settings: PORT in ;isn't one of 8780 to 8998" \
+  "another room's port;PORT=8790;port in use: ;hr.conf has 8790" \
+  "no day;EARLIER_FROM=2026-13-40;bad settings: EARLIER_FROM in ;isn't a day or the name of a b" \
+  "no time;EARLIER_FROM=2026-11-20.990000;bad settings: EARLIER_FROM in ;isn't a day or the n"; do
+  IFS=';' read -r name value text more <<<"$wrong"
+  sets "$value"
+  told "$name" 2 "$text" "$more"
+  same "$name: nothing is changed" $conf before
+done
+sed '$ a UNIT=rooms@office' $conf >machine/etc/rooms/copy-of-office.conf
+sets PORT=8998 EARLIER_FROM=2026-11-20.030000
+told 'what can be' 0 'with PORT=8998, EARLIER_FROM=2026-11-20.030000'
+sets PORT= EARLIER_FROM=
+told 'or nothing' 0 'with PORT=, EARLIER_FROM='
+rm machine/etc/rooms/{hr,old,copy-of-office}.conf
+# By hand anything is written: what mends one of two things is taken, and says the other.
+echo HOST=rooms.example >>$conf
+sets DRIVE=yes
+told 'what was refused before' 0 'host in use: HOST in '
+sets HOST= DRIVE=no PASSWORDS=
+told 'mended' 0 'new file /etc/rooms/office.conf'
 sets --room bills PASSWORDS=directory
 told 'a room elsewhere' 0 'new file /etc/rooms/bills.on, with PASSWORDS=directory' \
   'it counts after: rooms-admin setup'
@@ -78,15 +137,16 @@ sets --site 'HOSTS=docs.example rooms.example'
 told 'the site' 0 'it counts after: rooms-admin setup'
 is 'has its own' site 'HOSTS=docs.example rooms.example' CERTIFICATE= KEY=
 sets HOST=rooms.example
-told 'a host that is in use' 0 'host in use: HOST in '
+told 'a host that is in use' 2 'host in use: HOST in '
 sets HOST=
-told 'and no longer' 0 'it counts after: rooms-admin setup'
+told 'as it was' 0 'nothing to change'
 holds 'of which nothing is said' [ ! -s "$work/err" ]
 sets --site CERTIFICATE=/etc/ssl/rooms.pem
 told 'half a pair' 2 'CERTIFICATE and KEY in /etc/rooms/site need one another'
 sets --site --room office KEEP=3
 told 'both' 2 'not allowed with argument'
-holds 'nothing else is left' [ "$(cd machine/etc/rooms && echo *)" = 'bills.on office.conf site' ]
+holds 'nothing else is left' \
+  [ "$(cd machine/etc/rooms && echo *.*)" = 'bills.on directory.apache office.conf' ]
 holds 'nor hidden' [ -z "$(find machine -name '.*')" ]
 
 # Where no backup can come, it is said now, and not at night.
@@ -127,3 +187,32 @@ printf '%s\n' FILE=/F BACKUPS=/b KEEP=1 >unread/etc/rooms/office.conf
 holds 'a change that nobody reads' [ "$(cat status)" = 0 ]
 holds 'is done whole' \
   [ "$(tail -n 2 unread/etc/rooms/office.conf | tr '\n' ' ')" = 'KEEP=2 HOURS=3 ' ]
+
+# Nor does whoever closes a standard stream: what is opened next isn't taken for it, and a verb that
+# had something to print ends with 1.
+admin() { "$repo/admin/rooms-admin" "$@"; }
+closed() { # STREAMS STATUS WORD ..: with these streams closed, of i, o, e
+  local name="closed: $1 of $3"
+  (
+    exec >"$work/out" 2>"$work/err" </dev/null
+    case $1 in *i*) exec <&- ;; esac
+    case $1 in *o*) exec >&- ;; esac
+    case $1 in *e*) exec 2>&- ;; esac
+    admin "${@:3}"
+  )
+  status=$?
+  holds "$name: status $status" [ "$status" = "$2" ]
+  holds "$name: no traceback" [ "$(cat "$work/out" "$work/err" | grep -c Traceback)" = 0 ]
+}
+for streams in i o e io ie oe ioe; do
+  case $streams in *o*) lost=1 ;; *) lost=0 ;; esac
+  closed "$streams" $lost help set
+  closed "$streams" $lost set --destdir "$PWD/unread" --dry-run KEEP=9
+  closed "$streams" 2 set --destdir "$PWD/unread" KEEP=x
+  closed "$streams" 1 doctor --program "$rooms" "$PWD/none/F"
+  closed "$streams" 2 user add eve --room "$PWD/none.conf"
+  closed "$streams" 2 list set / --room "$PWD/none.conf"
+  ROOMS_SETTINGS=$PWD/none closed "$streams" 2 check
+done
+closed o 1 help set
+told 'which is said' 1 'failed: standard output is closed, so nobody has what was printed'

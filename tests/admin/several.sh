@@ -72,6 +72,9 @@ done
 for wrong in 0 08781 65536 99999 -1 port; do
   refuses "the port $wrong" 'bad port' --port "$wrong" invoices
 done
+for wrong in 443 8778 8999; do
+  refuses "the port $wrong" "isn't one of 8780 to 8998" --port "$wrong" invoices
+done
 for wrong in 'a"b' 'a\b' "a'b" 'a$b' ' a' 'a ' $'a\nb' "$(printf 'a%.0s' {1..101})"; do
   refuses "the title '$wrong'" 'bad title' --title "$wrong" invoices
 done
@@ -265,7 +268,8 @@ cat machine/etc/rooms/nginx/*/mine.conf >got
 printf '# mine\n# mine\n' >wanted
 same 'they stay' got wanted
 # Settings that can't be.
-for wrong in PASSWORDS=ldap HOST=a_b BEHIND=maybe PORT=0 OTHER=x HOST=rooms.example; do
+for wrong in PASSWORDS=ldap HOST=a_b BEHIND=maybe PORT=0 OTHER=x HOST=rooms.example \
+  PASSWORDS=directory PORT=443 FILE=/var/lib/rooms/office.rooms; do
   cp machine/etc/rooms/hr.conf hr.conf
   printf '%s\n' "$wrong" >>machine/etc/rooms/hr.conf
   tree >before
@@ -274,6 +278,8 @@ for wrong in PASSWORDS=ldap HOST=a_b BEHIND=maybe PORT=0 OTHER=x HOST=rooms.exam
     case $wrong in
       OTHER=*) echo 'has none of' ;;
       HOST=rooms*) echo 'host in use' ;;
+      FILE=*) echo 'file in use: ' ;;
+      *=directory) echo 'no directory: PASSWORDS=directory of hr has none yet' ;;
       *) echo "bad settings: ${wrong%%=*}" ;;
     esac
   )"

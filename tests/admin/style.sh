@@ -40,7 +40,7 @@ else
   skip 'style' 'flake8 is missing'
 fi
 for tested in test_pure test_backups test_told test_attacks test_texts test_limits test_keep \
-  test_deputy; do
+  test_deputy test_spreadsheet; do
   (cd "$here/admin" && PYTHONPATH=$repo/admin python3 -B -m unittest "$tested") >"$work/out" 2>&1
   status=$?
   holds "the pure parts, $tested: $(tail -n 20 "$work/out")" [ "$status" = 0 ]
@@ -99,6 +99,27 @@ while IFS= read -r verb; do
   fi
 done <verbs
 holds 'a verb has parts' grep -qx 'user remove' forms
+# What a new administrator looks for in them.
+while IFS=: read -r verb text; do
+  # shellcheck disable=SC2086
+  run_admin $verb --help
+  tr -s '\n ' ' ' <"$work/out" >flat
+  holds "help of $verb says: $text" grep -qF "$text" flat
+done <<'END'
+user:takes the first line of standard input
+user:and prints what else names them
+user add:which is asked for at the terminal, or by standard input
+user remove:what else names them is printed, and stays
+user:HEIR, who needs the rights t and o on each object
+members:Without FILE it prints who is in which group
+members:With FILE it has the room's groups be what such a file says
+groups:users of the last backup whom the directory writes in other capitals, and change nothing
+people:Writes the file of names
+mine:Writes what each user was given further down
+until:by last night's lists
+check:A room on another machine is asked there
+setup:Makes the users, the folders
+END
 while read -r -a verb; do
   run_admin "${verb[@]}" --help
   holds "${verb[*]} --help" [ "$status" = 0 -a ! -s "$work/err" ]

@@ -19,10 +19,22 @@ from rooms_admin.cli.report import Refused, Stop  # noqa: E402
 from rooms_admin.directory import groups  # noqa: E402
 from rooms_admin.host import safe  # noqa: E402
 from rooms_admin.people import known, offered  # noqa: E402
-from rooms_admin.room import published  # noqa: E402
+from rooms_admin.room import forms, published  # noqa: E402
 from rooms_admin.room.keep import Keep  # noqa: E402
 
 KEEP = Keep(14, 8, 12, 5)
+
+
+class Nights(unittest.TestCase):
+    """What EARLIER_FROM can be."""
+
+    def test_a_night_that_there_can_be(self) -> None:
+        for good in ("", "2026-11-20", "2026-11-20.030000", "2024-02-29"):
+            self.assertTrue(forms.is_night(good), good)
+        for bad in ("2026-11", "2026-13-40", "2026-02-29", "2026-11-20.", "2026-11-20.250000",
+                    "2026-11-20.03", "2026-1-2", "2026-11-20 ", " 2026-11-20", "2026-11-2\n",
+                    "\uff12026-11-20", "today"):
+            self.assertFalse(forms.is_night(bad), bad)
 
 
 class Clocks(unittest.TestCase):

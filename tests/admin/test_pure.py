@@ -224,7 +224,7 @@ class Lists(unittest.TestCase):
                "UNIT": "-x", "PROGRAM": "x", "PASSWORDS": "none", "HOST": "a b", "BEHIND": "on",
                "DRIVE": "on", "LARGEST": "0", "DATES": "yes", "DATES_NAMES": "", "GUESTS": "on",
                "PEOPLE": "all", "OWN_PASSWORDS": "", "SEARCH": "", "SEARCH_SCANS": "121",
-               "EARLIER": "yes", "EARLIER_FROM": "2026-11", "HOURS": "1000"}
+               "EARLIER": "yes", "EARLIER_FROM": "2026-13-40", "HOURS": "1000"}
         self.assertEqual({*bad, "TITLE"}, set(settings.known(settings.Room)))
         with tempfile.TemporaryDirectory() as at:
             place = os.path.join(at, "room.conf")

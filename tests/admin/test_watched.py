@@ -93,6 +93,77 @@ class Watched(unittest.TestCase):
             with unittest.mock.patch.object(served, "FRONT", "127.0.0.1:1"):
                 self.assertEqual(served.see_renewal("/rooms.pem"), "")
 
+    def test_a_room_on_another_machine(self) -> None:
+        """It is asked as nginx asks it: by our certificate, the authority of machines alone, and
+        the machine's name."""
+        with tempfile.TemporaryDirectory() as home, \
+                unittest.mock.patch.object(root, "ROOT", home):
+            files = f"{home}/etc/rooms/machines"
+            os.makedirs(files)
+
+            def openssl(*words: str) -> None:
+                subprocess.run(["openssl", *words], check=True, cwd=files, capture_output=True)
+
+            certify(f"{files}/authority.pem")
+            for name, called in (("front", "rooms-front"), ("machine", "localhost"),
+                                 ("other", "other.example")):
+                with open(f"{files}/{name}.ext", "w", encoding="ascii") as rules:
+                    rules.write(f"subjectAltName=DNS:{called}\n")
+                openssl("req", "-newkey", "ec", "-pkeyopt", "ec_paramgen_curve:P-256", "-noenc",
+                        "-subj", f"/CN={called}", "-keyout", f"{name}.key", "-out", f"{name}.req")
+                openssl("x509", "-req", "-in", f"{name}.req", "-CA", "authority.pem", "-CAkey",
+                        "authority.pem.key", "-CAcreateserial", "-extfile", f"{name}.ext",
+                        "-days", "9", "-out", f"{name}.pem")
+            certify(f"{files}/stranger.pem")
+            os.rename(f"{files}/stranger.pem.key", f"{files}/stranger.key")
+            self.assertEqual(self.elsewhere(home, "machine", b"200 OK"), [(0, "localhost answers")])
+            self.assertEqual(self.elsewhere(home, "machine", b"502 Bad Gateway"), [
+                (2, "localhost answers 502 for it: rooms-admin check on that machine")])
+            for name, why in (("other", "mismatch"), ("stranger", "verify failed")):
+                (level, said), = self.elsewhere(home, name, b"200 OK")
+                self.assertEqual(level, 2)
+                self.assertRegex(said, f"^localhost doesn't answer at [0-9]+: .*{why}")
+
+    def elsewhere(self, home: str, name: str, status: bytes) -> list[finding.Finding]:
+        """What is said of a room where this certificate and this status are what comes. A machine
+        that is away isn't asked again."""
+        files = f"{home}/etc/rooms/machines"
+        context = ssl.create_default_context(ssl.Purpose.CLIENT_AUTH,
+                                             cafile=f"{files}/authority.pem")
+        context.load_cert_chain(f"{files}/{name}.pem", f"{files}/{name}.key")
+        context.verify_mode = ssl.CERT_REQUIRED
+        asked: list[bytes] = []
+
+        class Answer(socketserver.StreamRequestHandler):
+            def setup(self) -> None:
+                self.request = context.wrap_socket(self.request, server_side=True)
+                super().setup()
+
+            def handle(self) -> None:
+                while line := self.rfile.readline().strip():
+                    asked.append(line)
+                self.wfile.write(b"HTTP/1.1 " + status + b"\r\nContent-Length: 0\r\n\r\n")
+
+        class Server(socketserver.ThreadingTCPServer):
+            def handle_error(self, *_given: object) -> None:
+                pass
+
+        with Server(("127.0.0.1", 0), Answer) as there:
+            threading.Thread(target=there.serve_forever, daemon=True).start()
+            path = f"{home}/invoices.on"
+            with open(path, "w", encoding="ascii") as out:
+                out.write(f"TITLE=x\nON=localhost\nPORT={there.server_address[1]}\n")
+            machines: dict[str, list[finding.Finding]] = {}
+            found = watched.of_place(path, machines)
+            there.shutdown()
+        (level, said), = watched.of_place(path, {})
+        self.assertEqual(level, 2)
+        self.assertRegex(said, "^localhost doesn't answer at [0-9]+: .*refused")
+        is_away = any(machines.values())
+        self.assertEqual(watched.of_place(path, machines) == found, is_away)
+        self.assertEqual(asked[:1], [] if is_away else [b"GET /invoices/can/ HTTP/1.1"])
+        return found
+
     def test_a_room_is_asked_where_it_listens(self) -> None:
         """At its socket. The server of a unit of somebody's own may have a port in its place; one
         beside SOCKET=yes, of a version before, is only in reserve."""

@@ -39,12 +39,14 @@ only 'the texts of a backup are named' '[/"-](records|review)[.]csv"|"lists[.]tx
 only "members' rows are written and read" 'group,user' people/members
 only 'the members of a room are changed' '\bmembers[.]change\(' people/known
 only 'what was known of them is kept' 'members[.]csv' people/known
+only 'a file of a spreadsheet is read' 'open[(].*"utf-8-sig"|csv[.]reader[(]io' people/spreadsheet
 only 'a server is stopped' 'systemctl\("stop"' room/server
 only 'a server is started' 'systemctl\("start", [a-z.]*unit' room/server
 only 'it is said how long a room may take' '\bANSWER(_SECONDS)? = |_timeout [0-9]+s' room/waits
 only 'a setting has its form' 'setting\("[A-Z_]+",|yes\("[A-Z_]+"\)' room/settings
 only 'what a terminal would obey is written in another way' \
   'ascii\(one\)\[' cli/report
+only 'it is seen whether a stream is closed' 'sys[.]std[a-z]+ is (not )?None' cli/output
 only 'what of a name is seen is said' 'isprintable\(\) (else|or|and)|table\("invisible' cli/signs
 only "a backup's name is read as a moment" '\bmktime\(|%Y-%m-%d[.]%H%M%S"' backup/backups
 only "a room's name is that of its settings" 'removesuffix\("[.]conf"\)' room/settings

@@ -299,6 +299,10 @@ holds 'a password is offered beside' \
 types 'and no more' docs/directory 'rm /etc/rooms/directory.d/kerberos.apache'
 types 'the way back' docs/directory 'rooms-admin setup --directory none'
 answers_as 'the file counts' 200
+# By its settings alone the room asks the directory again, which was set up.
+does 'the directory again' 'rooms-admin set PASSWORDS=directory && rooms-admin setup'
+shows 'has its Apache started' 'systemctl enable --now rooms-passwords.service'
+does 'the way back again' 'rooms-admin setup --directory none'
 does 'TLS for sessions' 'rooms-admin setup --tls /etc/ssl/rooms.pem /etc/ssl/private/rooms.key'
 types 'sessions' docs/directory libapache2-mod-auth-openidc docs/directory OIDCProviderMetadataURL \
   docs/directory '[Service]' docs/directory PASSWORDS=session

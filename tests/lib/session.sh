@@ -40,6 +40,7 @@ write_sessions() {
     -e "s#https://rooms.example#$base#; s#/usr/share/rooms/signed-in#$repo/deploy/signed-in#" \
     session.apache
   by_checker -i session.apache
+  cp session.apache machine/etc/rooms/
   mkdir -p run
 }
 start_sessions() {

@@ -311,6 +311,7 @@ if [ -n "$nginx" ] && [ "$(id -u)" = 0 ] && has openssl; then
   holds 'a room behind another front end' more --behind ledger
   holds 'a room on another machine' more --on localhost archive
   holds 'a room at a path' more invoices
+  touch machine/etc/rooms/{directory,session}.apache
   for name in invoices:directory office:session; do
     sed -i "s/^PASSWORDS=.*/PASSWORDS=${name#*:}/" "machine/etc/rooms/${name%:*}.conf"
   done

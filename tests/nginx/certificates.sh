@@ -17,7 +17,7 @@ printf 'dora:{PLAIN}d\n' >rooms-hr.htpasswd
 start_front 'behind nginx before TLS' || return
 ask 'a document before TLS' 201 '' alice:a /doc/f -X PUT --data-binary kept
 makes_deepest '' alice:a bob:b
-holds 'a room at a host' adds add --port $((port + 6)) --host hr.example hr
+holds 'a room at a host' adds add --port 8791 --host hr.example hr
 stop_server
 stop_proxy
 

@@ -221,8 +221,8 @@ answers() {
   [ "$(curl -s -o "$work/body" \
     -w '%{http_code}' ${reach[@]+"${reach[@]}"} ${2:+-u "$2"} "$base$3")" = "$1" ]
 }
-holds 'a room at a path' adds add --port $((port + 5)) --title 'Invoices & <orders>' invoices
-holds 'a room at a host' adds add --port $((port + 6)) --host hr.example hr
+holds 'a room at a path' adds add --port 8790 --title 'Invoices & <orders>' invoices
+holds 'a room at a host' adds add --port 8791 --host hr.example hr
 take_front
 printf 'carol:{PLAIN}c\nbob:{PLAIN}x\n' >rooms-invoices.htpasswd
 printf 'dora:{PLAIN}d\n' >rooms-hr.htpasswd

@@ -29,6 +29,7 @@ set_list F / dacl list:a "A:fd:root:$ALL" A:fd:alice:rwxat A:fd:EVERYONE@:rx
 start_room F 1000 || return
 printf 'alice:{PLAIN}a\n' >rooms.htpasswd
 admin setup
+touch machine/etc/rooms/session.apache
 sets office PASSWORDS session
 sets office DATES who
 start_front 'names of the site' tls || return

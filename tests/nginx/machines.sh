@@ -225,6 +225,29 @@ gets 'that is set' 204 '' \
 gets 'what one may' 200 '{"r":"allowed 2","w":"silent"}' bob:b '/can/big?rw'
 gets 'owners' 200 '{"group":"staff","kind":"document","owner":"carol"}' carol:c /attr/big
 gets 'a removal' 204 '' carol:c /object/big -X DELETE
+# A's check asks there as nginx does.
+mkdir looks
+sed "s/^PORT=.*/PORT=$secure/" A/etc/rooms/invoices.on >looks/invoices.on
+checks() { # NAME TEXT
+  ${at_a[@]+"${at_a[@]}"} unshare --mount sh -c 'mount --bind "$0" /etc/hosts && exec "$@"' \
+    "$PWD/hosts" env ROOMS_ROOT="$PWD/A" ROOMS_SETTINGS="$PWD/looks" ROOMS_RUN="$PWD/run" \
+    "$repo/admin/rooms-admin" check --json --room invoices >"$work/out" 2>"$work/err" </dev/null
+  holds "$1: $(head -c 400 "$work/out" "$work/err")" \
+    [ "$(tr -d '\n' <"$work/out" | grep -cF "\"room\": \"invoices\",  $2")" = 1 ]
+}
+checks 'a room there' '"level": "ok",  "text": "b.example answers"'
+mv looks/invoices.on looks/other.on
+sed 's/b.example/false.example/' looks/other.on >looks/invoices.on
+checks 'another machine in its place' '"level": "critical",  "text": "false.example doesn'
+holds 'is known by its certificate' grep -q 'Hostname mismatch' "$work/out"
+cp -r A/etc/rooms/machines kept-keys
+cp B/etc/rooms/machines/machine.pem A/etc/rooms/machines/front.pem
+cp B/etc/rooms/machines/machine.key A/etc/rooms/machines/front.key
+mv looks/other.on looks/invoices.on
+checks "who isn't the front end" \
+  '"level": "critical",  "text": "b.example answers 400 for it: rooms-admin check on that machine"'
+rm -r A/etc/rooms/machines
+mv kept-keys A/etc/rooms/machines
 # Its door is there too, and the front end here knows nothing of it.
 gets 'no door yet' 502 - carol:c '/door/find/?x'
 mkdir -p B/run/door/invoices B/changes/invoices

@@ -137,8 +137,9 @@ holds 'no password is in a log' \
 # Where nobody changes an own one, nginx says who does.
 admin add hr alice staff
 sets hr OWN_PASSWORDS no
-sets hr PORT "$port"
+sets hr PORT 8790
 admin add sales alice staff
+touch machine/etc/rooms/directory.apache
 sets sales PASSWORDS directory
 admin setup
 holds 'other rooms' [ "$status" = 0 ]

@@ -1,20 +1,23 @@
-"""What `check` looks at of nginx: its answers for rooms, and its files."""
+"""What `check` looks at of nginx: its answers for rooms, also on other machines, and its files."""
 import http.client
 import os
 import re
+import ssl
 
 from ..host import changes, commands, root
 from ..room import settings
 from ..site import connections, served, template
 from ..cli.report import Refused
 from ..host.commands import printed
-from ..room.settings import Room
+from ..room.settings import Place, Room
 from .finding import CRITICAL, OK, WARNING, Finding
 
 # What Debian's nginx.conf has, and docs/capacity.md counts on.
 CONNECTIONS = 768
 # Seconds that nginx may take for a look at its files: it asks for the names in them.
 PATIENCE = 20
+# The same that another machine may take for each part of an answer.
+FAR = 10
 # What nginx says where it does its part: it asks for a password, or sends on to where it does.
 _LEADS = (301, 302, 303, 307, 308)
 _ASKS = (200, *_LEADS, 401, 403, 429)
@@ -79,6 +82,45 @@ def see_front(room: Room) -> list[Finding]:
             asked.close()
     return [(CRITICAL, f"another site of nginx's answers for {place[0]}: HOSTS in /etc/rooms/site "
              "names those of the rooms; then rooms-admin setup")]
+
+
+def _to(place: Place) -> http.client.HTTPSConnection:
+    """Another machine, as nginx's site has it: by the name ON, and by our authority alone."""
+    files = root.ROOT + template.MACHINES
+    context = ssl.SSLContext(ssl.PROTOCOL_TLS_CLIENT)
+    context.minimum_version = ssl.TLSVersion.TLSv1_3
+    context.load_verify_locations(f"{files}/authority.pem")
+    context.load_cert_chain(f"{files}/front.pem", f"{files}/front.key")
+    return http.client.HTTPSConnection(place.on, int(place.port), timeout=FAR, context=context)
+
+
+def see_machine(place: Place) -> list[Finding]:
+    """Whether it is there, and no other one in its place."""
+    try:
+        asked = _to(place)
+    except OSError as fault:
+        return [(CRITICAL, f"{template.MACHINES} has no certificate that can be used: {fault}")]
+    try:
+        asked.connect()
+        asked.close()
+    except (OSError, http.client.HTTPException) as fault:
+        return [(CRITICAL, f"{place.on} doesn't answer at {place.port}: {fault}")]
+    return []
+
+
+def see_there(place: Place) -> list[Finding]:
+    """Its room, by a question of nobody's that nginx there passes on. The room answers whatever the
+    caller may."""
+    asked = _to(place)
+    try:
+        asked.request("GET", f"/{place.name}/can/", headers={"Connection": "close"})
+        status = asked.getresponse().status
+    except (OSError, http.client.HTTPException) as fault:
+        return [(CRITICAL, f"{place.on} doesn't answer for it: {fault}")]
+    finally:
+        asked.close()
+    return [(OK, f"{place.on} answers") if status == 200 else
+            (CRITICAL, f"{place.on} answers {status} for it: rooms-admin check on that machine")]
 
 
 def _passes_on(room: Room) -> bool:

@@ -7,7 +7,7 @@ from collections.abc import Iterator
 from dataclasses import dataclass
 
 from ..host import locks
-from ..room import awaited, server, settings
+from ..room import awaited, forms, server, settings
 from ..host.commands import printed
 
 
@@ -51,7 +51,7 @@ def answers(name: str) -> bool:
     """Whether the server of a room does, wherever its settings say that it listens."""
     conf = f"{settings.HOME}/{name}.conf"
     port = settings.port(conf)
-    return awaited.is_well(port if settings.is_port(port) else "",
+    return awaited.is_well(port if forms.is_port(port) else "",
                            os.path.join(locks.RUN, "rooms", name, "socket"))
 
 

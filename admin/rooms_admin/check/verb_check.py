@@ -1,10 +1,11 @@
 """Whether all is well, in one line, for monitoring: 0 if so, 1 with a warning, 2 where something is
-critical. Nothing is changed.
+critical. Nothing is changed. A room on another machine is asked there, as nginx does.
 
 With --json it is a list of objects with the names 'room', 'level' and 'text', one for each thing
 that was seen: 'level' is 'ok', 'warning' or 'critical', and 'room' is empty for the machine."""
 import argparse
 import glob
+import os
 
 from ..cli import report, words
 from ..host import unheld
@@ -23,16 +24,25 @@ def arguments(parser: words.Parser) -> None:
 
 
 def _rooms(named: list[str]) -> list[str]:
-    found = named or sorted(glob.glob(f"{glob.escape(settings.HOME)}/*.conf"))
+    """Their settings; of one on another machine what this one has of it."""
+    here = glob.escape(settings.HOME)
+    found = list(map(_settings, named)) or [
+        path for end in ("conf", "on") for path in sorted(glob.glob(f"{here}/*.{end}"))]
     if not found:
         raise Refused(f"no settings: {settings.HOME} has no room")
     return found
 
 
-def _of_room(conf: str) -> list[Finding]:
+def _settings(word: str) -> str:
+    path = settings.file_of(word)
+    there = f"{settings.HOME}/{word}.on"
+    return there if not os.path.lexists(path) and os.path.lexists(there) else path
+
+
+def _of_room(path: str, machines: dict[str, list[Finding]]) -> list[Finding]:
     """Settings that are refused are a finding, and the other rooms are looked at all the same."""
     try:
-        return watched.of_room(conf)
+        return watched.of_place(path, machines) if path.endswith(".on") else watched.of_room(path)
     except Refused as stop:
         return [(CRITICAL, str(stop))]
 
@@ -55,8 +65,8 @@ def run(given: argparse.Namespace) -> int:
     """nginx -t takes the ports where nginx doesn't run: whoever calls this holds it no longer than
     that."""
     unheld.go_on()
-    rooms = [(settings.name_of(settings.file_of(conf)), _of_room(conf))
-             for conf in _rooms(given.rooms)]
+    machines: dict[str, list[Finding]] = {}
+    rooms = [(settings.name_of(path), _of_room(path, machines)) for path in _rooms(given.rooms)]
     directory = watched.within(watched.PATIENCE, watched.see_directory, "what asks the directory")
     files = watched.within(watched.PATIENCE, front.see_files, "nginx -t")
     guests = watched.within(watched.PATIENCE, watched.see_guests, "the directory")

@@ -22,11 +22,12 @@ from ..host.commands import printed
 from ..room.settings import Room
 from ..room.size import NoRoom, Used
 from .finding import CRITICAL, OK, WARNING, Finding
-from .front import see_front
+from .front import FAR, see_front, see_machine, see_there
 
 HOUR = 3600
 # Seconds. Whoever a server or nginx is by now could answer so slowly that it never ends.
 PATIENCE = 150
+_FAR = 3 * FAR
 # Less than this is a full disk: twice the largest document, in the log and on its way.
 FULL = 16 << 20
 # The clocks of a disk and of the machine may differ by so much.
@@ -247,20 +248,27 @@ def see_namespaces(room: Room) -> list[Finding]:
              f"{' '.join(want)}: sysctl user.max_user_namespaces")] if want else []
 
 
+def _born(place: str) -> int:
+    """When a file was made, in seconds since 1970; 0 where its disk doesn't know."""
+    said = printed(["stat", "-c", "%W", "--", place])
+    return int(said) if said.isdigit() else 0
+
+
 def _none_yet(room: Room, now: float) -> Finding:
-    said = printed(["stat", "-c", "%W", "--", room.file])
-    if said.isdigit() and now - int(said) < 26 * HOUR:
+    if now - _born(room.file) < 26 * HOUR:
         return WARNING, f"no backup yet: systemctl start {room.nightly}"
     return CRITICAL, "no good backup"
 
 
 def see_groups(room: Room) -> list[Finding]:
-    """The last run that the timer began. A run that fails is a unit that has failed."""
+    """The last run that the timer began. A run that fails is a unit that has failed. systemd makes
+    the stamp when the timer starts, and writes its time anew with each run."""
     timer = f"rooms-directory@{room.name}.timer"
     if not os.path.lexists(f"{root.ROOT}/etc/systemd/system/timers.target.wants/{timer}"):
         return []
+    place = f"{root.ROOT}/var/lib/systemd/timers/stamp-{timer}"
     try:
-        stamp = os.stat(f"{root.ROOT}/var/lib/systemd/timers/stamp-{timer}").st_mtime
+        stamp = os.stat(place).st_mtime
     except OSError:
         return [(WARNING, f"{timer} has never run")]
     age = int(time.time() - stamp) // HOUR
@@ -268,7 +276,8 @@ def see_groups(room: Room) -> list[Finding]:
         # systemd would wait for that time.
         return [(WARNING, f"{timer} has never run since the clock was set back: systemctl restart "
                  f"{timer}")]
-    return [(WARNING if age >= 26 else OK, f"groups {age} h ago")]
+    said = f"{timer} has never run" if 0 <= stamp - _born(place) < 2 else f"groups {age} h ago"
+    return [(WARNING if age >= 26 else OK, said)]
 
 
 def see_timer(room: Room) -> list[Finding]:
@@ -386,6 +395,16 @@ def see_certificates() -> list[Finding]:
     return [*map(certificates.see_certificate, wanted),
             *((WARNING, said) for file in certificates.site_certificates()
               for said in (served.see_names(file), served.see_renewal(file)) if said)]
+
+
+def of_place(path: str, machines: dict[str, list[Finding]]) -> list[Finding]:
+    """A room on another machine, which knows all else of it. One machine that is away isn't waited
+    for again by the next room."""
+    place = settings.place(path)
+    machine = f"{place.on}:{place.port}"
+    if machine not in machines:
+        machines[machine] = within(_FAR, lambda: see_machine(place), machine)
+    return machines[machine] or within(_FAR, lambda: see_there(place), machine)
 
 
 def of_room(conf: str) -> list[Finding]:

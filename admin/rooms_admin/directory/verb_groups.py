@@ -1,10 +1,10 @@
 """Brings the groups of a room into line with a directory (LDAP, Active Directory), by the settings
 /etc/rooms/directory and NAME.groups beside those of the room. Nothing is changed if the directory
-doesn't answer; if a group would have no member; or if more than MOST pairs would go; the last two
-only without --force. A group that the directory hasn't, under that name, stays as it is and is
-named, with status 1; the others are brought into line. The server is stopped only if there is
-something to change, or if the room's file isn't the one of the last run, and is started again
-whatever happened."""
+doesn't answer; if a group would have no member; or if more than MOST pairs of a group and a user
+would go; with --force neither of the last two counts. A group that the directory hasn't, under that
+name, stays as it is and is named, with status 1; the others are brought into line. The server is
+stopped only if there is something to change, or if the room's file isn't the one of the last run,
+and is started again whatever happened."""
 import argparse
 import os
 from contextlib import ExitStack
@@ -22,7 +22,8 @@ def arguments(parser: words.Parser) -> None:
     words.room(parser)
     how = parser.add_mutually_exclusive_group()
     words.flag(how, "--dry-run", "print what would come and go, and change nothing")
-    words.flag(how, "--names", "print users whom the directory writes in other capitals")
+    words.flag(how, "--names", "print users of the last backup whom the directory writes in "
+               "other capitals, and change nothing")
     words.flag(how, "--after", "only do what a run that was cut off still owes; the unit calls it")
     words.flag(parser, "--force", "change more than MOST, and empty a group")
 

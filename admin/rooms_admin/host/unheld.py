@@ -11,7 +11,7 @@ from collections.abc import Iterator
 from typing import Any
 
 from . import handed_on, own_group
-from ..cli import report
+from ..cli import output, report
 
 _MARK = struct.Struct("=QQ")
 
@@ -37,8 +37,7 @@ def go_on() -> None:
     """From here on another process does the work, in a session and a control group that aren't the
     caller's. This one waits for it, hands on what would end it, prints what it said, and ends as it
     did. So nothing is locked before, and nothing is asked from here on."""
-    if sys.stdout is not None:
-        sys.stdout.flush()
+    sys.stdout.flush()
     said, marks = (os.memfd_create(name, os.MFD_CLOEXEC) for name in ("said", "marks"))
     fcntl.fcntl(said, fcntl.F_SETFL, os.O_APPEND)
     with report.signals_wait():
@@ -67,9 +66,8 @@ def _keep(said: int, marks: int) -> None:
     nothing = os.open(os.devnull, os.O_RDONLY | os.O_CLOEXEC)
     for number, stream in ((nothing, 0), (said, 1), (said, 2)):
         os.dup2(number, stream)
-    if sys.stdout is not None:
-        sys.stdout = io.TextIOWrapper(io.BufferedWriter(_Kept(said, marks)), sys.stdout.encoding,
-                                      errors="backslashreplace", line_buffering=True)
+    sys.stdout = io.TextIOWrapper(io.BufferedWriter(_Kept(said, marks)), sys.stdout.encoding,
+                                  errors="backslashreplace", line_buffering=True)
 
 
 def _parts(said: int, marks: int) -> Iterator[tuple[Any, bytes]]:
@@ -85,12 +83,13 @@ def _parts(said: int, marks: int) -> Iterator[tuple[Any, bytes]]:
 def _end(said: int, marks: int, status: int) -> None:
     try:
         for stream, text in _parts(said, marks):
-            if stream is not None and text:
+            if text:
                 stream.buffer.write(text)
                 stream.flush()
     except OSError as fault:
         report.say(f"failed: {fault}")
         status = 1
+    status = output.ended(status)
     if status < 0:
         os.kill(os.getpid(), -status)
     os._exit(status)

@@ -36,7 +36,7 @@ def path(text: str) -> bytes:
 
 def list_text() -> bytes:
     """That of standard input."""
-    text = sys.stdin.buffer.read(_MOST + 1) if sys.stdin is not None else b""
+    text = sys.stdin.buffer.read(_MOST + 1)
     if not text.strip():
         raise Refused("no list: standard input has none")
     if len(text) > _MOST:

@@ -8,7 +8,7 @@ from collections import Counter
 from dataclasses import dataclass, field
 
 from ..host import locks, pem, safe, waiting
-from ..room import environment, names, settings
+from ..room import environment, forms, names, settings
 from ..passwords import passwords
 from ..backup import backups
 from ..site import template
@@ -274,7 +274,7 @@ def is_plain(tar: Tar, name: str) -> bool:
         return _is_plain_room(name, file.data)
     if name == _DIRECTORY:
         # Whoever is at its URI is told the first line of this file.
-        return settings.matches(r"(/etc/rooms/[^/]+\.secret)?", setting_of(file.data, "SECRET"))
+        return forms.matches(r"(/etc/rooms/[^/]+\.secret)?", setting_of(file.data, "SECRET"))
     if name == template.KEY[1:]:
         return _PLAIN_KEY.fullmatch(file.data) is not None
     return _is_made(tar) if name == _SITE else _PLAIN.fullmatch(name) is not None
@@ -290,10 +290,10 @@ def _is_plain_room(name: str, data: bytes) -> bool:
             and setting_of(data, "PROGRAM") in ("", settings.PROGRAM)
             and setting_of(data, "UNIT") in ("", f"rooms@{word}")
             and not setting_of(data, "STANDBY")
-            and settings.matches(_MAIL, setting_of(data, "MAIL"))
-            and settings.matches(r"/var/lib/rooms/[A-Za-z0-9_-][^/]*", setting_of(data, "FILE"))
-            and settings.matches(r"/var/backups/rooms(/[A-Za-z0-9_-][^/]*)?",
-                                 setting_of(data, "BACKUPS")))
+            and forms.matches(_MAIL, setting_of(data, "MAIL"))
+            and forms.matches(r"/var/lib/rooms/[A-Za-z0-9_-][^/]*", setting_of(data, "FILE"))
+            and forms.matches(r"/var/backups/rooms(/[A-Za-z0-9_-][^/]*)?",
+                              setting_of(data, "BACKUPS")))
 
 
 def _is_made(tar: Tar) -> bool:

@@ -11,7 +11,7 @@ from collections.abc import Iterator
 from contextlib import ExitStack, contextmanager, suppress
 
 from ..host import commands, locks, safe, waiting
-from ..room import program, server, settings
+from ..room import forms, program, server, settings
 from ..passwords import passwords
 from ..backup import restoring
 from . import machine, machine_tar
@@ -84,7 +84,7 @@ class Machine:
                 named = setting_of(source.read(), "UNIT")
             units.add(named or f"rooms@{settings.name_of(conf)}")
         for one in sorted(units):
-            if settings.matches(settings.UNIT, one):
+            if forms.matches(settings.UNIT, one):
                 self.owned.enter_context(locks.lock(f"{one}.nightly", 0))
                 self.owned.enter_context(locks.lock(one, 0))
 

@@ -58,7 +58,7 @@ class Line:
 
 def ask(user: str) -> str:
     """On the terminal, twice; otherwise the first line of standard input."""
-    if sys.stdin is not None and not sys.stdin.isatty():
+    if not sys.stdin.isatty():
         text = sys.stdin.readline()
         given = again = text.rstrip("\n")
     else:

@@ -8,9 +8,9 @@ from dataclasses import dataclass
 from ..cli import alike
 from ..passwords import passwords
 from ..backup import dates
-from ..lists import dump, naming
+from ..lists import dump, naming, would
 from . import handing_over, joining, known, look, offered
-from ..cli.report import Refused, line, say
+from ..cli.report import Refused, Stop, line, say
 from ..room.http_client import Caller
 from ..room.settings import Room
 from ..lists.dump import Object
@@ -101,6 +101,7 @@ def leave(asked: Leaving) -> int:
             say(f"nobody: {asked.name} has no password in {asked.file}, is in no group, owns "
                 f"nothing and stands in no list{alike.meant(asked.name, has | _borne(lists))}")
             return 1
+        _tell_last(asked, room, lists)
         _leave_groups(asked, room, dump.members(lists.split(b"\n")), newest_one)
     if not room.has_passwords:
         say(f"passwords of {asked.place} aren't in its file: {asked.name} has to leave where they "
@@ -109,6 +110,21 @@ def leave(asked: Leaving) -> int:
         if isinstance(one.what, Object):
             print("\n".join(map(line, one.lines())))
     return _hand_over(asked, room, lists) if asked.heir else 0
+
+
+def _tell_last(asked: Leaving, room: Room, lists: bytes) -> None:
+    """Before the groups go that may let others manage the room. The program says who may set the
+    list of its root; who leaves goes all the same where it can't."""
+    root = would.question((one for one in _rows(lists) if not isinstance(one, Object)
+                           or one.path == b"/"), b"/", b"/", [b"look /"])
+    try:
+        who = {one.user for one in would.answered(room, root) if "C" in one.rights} if root else ()
+    except Stop as stop:
+        say(str(stop))
+        return
+    if who == {asked.name}:
+        say(f"nobody but {asked.name} may set the list of /: without {asked.name} root alone can, "
+            "by rooms-admin list set /")
 
 
 def _leave_groups(asked: Leaving, room: Room, before: set[dump.Pair], newest_one: Newest) -> None:

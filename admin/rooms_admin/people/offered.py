@@ -1,5 +1,4 @@
 """The names that the web interface offers, in the file that nginx shows as /people."""
-import csv
 import json
 import os
 import unicodedata
@@ -10,7 +9,7 @@ from ..host import locks
 from ..room import names, published
 from ..passwords import passwords
 from ..lists import dump
-from . import known
+from . import known, spreadsheet
 from ..cli.report import Interrupted, Refused, Stop, say
 from ..room.settings import Room
 from .known import Known, Newest
@@ -111,28 +110,23 @@ def with_password(path: str) -> set[str]:
 def full_names(path: str, users: set[str], failures: list[str]) -> dict[str, str]:
     """Lines LOGIN,FULL NAME. A line that can't be taken is told, and the others count."""
     found: dict[str, str] = {}
+    if not os.path.lexists(path):
+        return found
     try:
-        with open(path, encoding="utf-8-sig", newline="") as source:
-            rows = list(csv.reader(source, strict=True))
-    except FileNotFoundError:
-        return {}
-    except (OSError, UnicodeDecodeError, csv.Error) as fault:
-        failures.append(f"no full names: {path} can't be read: {fault}")
-        return {}
-    for number, row in enumerate(rows, 1):
-        if not row:
-            continue
-        why = _why_not(row, found)
-        if why:
-            failures.append(f"bad names: {path}, line {number} {why}")
-        else:
-            found[row[0]] = row[1].strip()
+        for number, row in spreadsheet.rows(path, "login"):
+            why = _why_not(row, found) if number else ""
+            if why:
+                failures.append(f"bad names: {path}, line {number} {why}")
+            elif number:
+                found[row[0]] = row[1]
+    except Refused as refused:
+        failures.append(str(refused))
     return {one: found[one] for one in sorted(found) if one in users}
 
 
 def _why_not(row: list[str], found: dict[str, str]) -> str:
-    if len(row) != 2 or not row[1].strip():
-        return "isn't LOGIN,FULL NAME; a name with a comma stands in quotes"
+    if len(row) != 2 or not row[1]:
+        return "isn't LOGIN,FULL NAME or LOGIN;FULL NAME; a name with that sign stands in quotes"
     if not names.is_user(row[0]):
         return f"begins with {row[0]!a}, which can't be a user of a room"
     if row[0] in found:

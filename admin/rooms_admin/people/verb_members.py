@@ -1,6 +1,7 @@
-"""Who is in which group, in a file for a spreadsheet with a line GROUP,USER for each pair, and such
-a file put back: what it has more comes in, and what it lacks goes out, in one step for which the
-server stops once.
+"""Without FILE it prints who is in which group, for a spreadsheet: a line GROUP,USER for each pair.
+With FILE it has the room's groups be what such a file says, with commas or semicolons: each pair
+that the file alone has comes in, and each that it lacks goes out of the room's groups. The server
+stops once for all of it, if anything changes.
 
 Each pair that comes (+) or goes (-) is printed first. A file that this verb printed is refused once
 somebody else has changed groups. Nobody is taken who has no password and is in no group, as whoever
@@ -22,7 +23,7 @@ MOST = 10
 
 def arguments(parser: words.Parser) -> None:
     parser.forms = ["[--json] [--room ROOM]", "[--new] [--force] [--dry-run] [--room ROOM] FILE"]
-    words.word(parser, "file", "[FILE]", "who is to be in which group; without it that is printed")
+    words.word(parser, "file", "[FILE]", "who is to be in which group, all groups of it")
     words.room(parser)
     words.flag(parser, "--new", "groups need have no member yet, and users no password")
     words.flag(parser, "--force", "more than 10 pairs may go, and groups may have changed since "

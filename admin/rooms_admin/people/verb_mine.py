@@ -1,5 +1,5 @@
-"""What each user was given further down: a file for each, from last night's review. nginx shows the
-caller's own one as /mine, and that of '*' to whoever has no row in the review."""
+"""Writes what each user was given further down, a file for each, from last night's review. nginx
+shows the caller's own one as /mine, and that of '*' to whoever has no row in the review."""
 import argparse
 import os
 

@@ -1,5 +1,6 @@
-"""The names that the web interface offers: who has a password, the groups, full names. nginx shows
-the file as /people to whoever signs in. Nothing decides by it."""
+"""Writes the file of names that the web interface offers, as PEOPLE of the settings says: who has a
+password, the groups, full names. nginx shows it as /people to whoever signs in. Nothing decides by
+it."""
 import argparse
 import os
 

@@ -1,7 +1,7 @@
-"""Takes accesses back whose end date is over: the entries of that level and no others. The server
-rests for that, as for `rooms reset` by hand, so nothing is asked in anybody's name, no record says
-that it was, and nothing goes on because somebody has left. A date counts for its list: whoever
-wrote it could have taken the same away."""
+"""Takes accesses back whose end date is over, by last night's lists: the entries of that level and
+no others. The server stops for that, as for `rooms reset` by hand: it is done in nobody's name, no
+record says that it was, and an access ends too where whoever gave it has left. A date counts for
+its list: whoever wrote it could have taken the same away."""
 import argparse
 import os
 

@@ -1,16 +1,20 @@
-"""Somebody joins, changes groups, gets a new password, or leaves: the password in nginx's file,
-which counts before anything else is done, the rows of their groups, and what names them afterwards.
-The server stops only where groups change, for all of them at once.
+"""Somebody joins, changes groups, gets a new password, or leaves. A password is in nginx's file,
+and counts from the next request on. Groups are in the room: its server stops for a moment where
+they change, once for all of them.
 
-FILE has a line for each user, NAME,GROUP,GROUP .., and the server stops once for all of them.
-Whoever has no password gets one, which is printed.
+add asks for the password at the terminal, or takes the first line of standard input; who has one
+gets the new one in its place. FILE has a line for each user, NAME,GROUP,GROUP .., with commas or
+semicolons: whoever has no password gets one, which is printed, and who has one keeps it.
 
 change needs no password: it adds the user to groups and takes them out of others, in one step that
 undoes nothing of what somebody else changed meanwhile. It prints each pair that comes (+) or goes
 (-). Nobody gets into a group that has no member yet, which is most often a mistyped one, without
 --new.
 
-remove looks first: where nobody is called so it ends with 1, and where there is no HEIR with 2.
+remove takes the password away and the user out of all groups, and prints what else names them: what
+belongs to them, which --to gives to HEIR, and entries of lists, which stay. It says before that
+where nobody else may set the list of /. Where nobody is called NAME it changes nothing and ends
+with 1, and where nobody is called HEIR with 2.
 
 list prints everybody who has a password or is in a group, as far as groups are known while the
 server runs: a line with the name, whether there is a password, and the groups. With --json it is a
@@ -34,8 +38,11 @@ def arguments(parser: words.Parser) -> None:
     parser.set_defaults(name="", groups="", file="", first=False, random=False, to="",
                         password=False, json=False, add=[], drop=[], new=False, dry_run=False)
     add, change, remove, listed = parser.has_parts("what", {
-        "add": "somebody joins, or gets a new password",
-        "change": "somebody comes into groups, or goes out of them", "remove": "somebody leaves",
+        "add": "somebody joins, or gets a new password, which is asked for at the terminal, or by "
+               "standard input",
+        "change": "somebody comes into groups, or goes out of them",
+        "remove": "somebody leaves, without a password and out of all groups; what else names them "
+                  "is printed, and stays",
         "list": "who has a password or is in a group"})
     _arguments_of_add(add)
     words.word(change, "name", "NAME", "the user")
@@ -48,7 +55,8 @@ def arguments(parser: words.Parser) -> None:
     words.word(remove, "name", "NAME", "the user")
     words.room(remove)
     how = remove.add_mutually_exclusive_group()
-    words.option(how, "--to", "HEIR", "give all that belongs to the user to HEIR, who asks for it")
+    words.option(how, "--to", "HEIR", "give all that belongs to the user to HEIR, who needs the "
+                 "rights t and o on each object")
     words.flag(how, "--password", "take the password away, and nothing else; the server isn't "
                "stopped")
     words.dry_run(remove, "what would go, and what names the user")

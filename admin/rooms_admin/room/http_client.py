@@ -135,6 +135,8 @@ class Client:
             self._sign_in(f"{caller.user}:{_ask_password(caller.user)}")
         if self.log:
             self._write_log("")
+        # A room believes whom nginx names, or root.
+        self._is_nameless = not (self.headers.keys() & {"Room-User", "Authorization"})
         self._largest = largest
         proxy = urllib.request.ProxyHandler({} if home else None)
         https = urllib.request.HTTPSHandler(context=context)
@@ -215,6 +217,10 @@ class Client:
         if reply.status in (502, 503, 504):
             raise Stop(f"status {reply.status}: the room or the front end is out of order; "
                        f"{self.next_step}")
+        if reply.status == 403 and self._is_nameless:
+            self._is_nameless = False
+            say("asked as a caller without a name, who may not: --as NAME asks as a user of the "
+                "room, for root on its own machine")
         if reply.status == 500 and self.ends_by_500:
             raise Stop(f"status 500: the room is out of order; {self.next_step}")
         return reply

@@ -1,14 +1,14 @@
 """All files of settings: lines NAME=value, never executed. One reader for all of them."""
 import functools
 import os
-import re
 import stat
-from collections.abc import Callable, Iterable
+from collections.abc import Callable, Iterable, Iterator
+from contextlib import contextmanager
 from dataclasses import dataclass, field, fields
 from typing import Any
 
 from ..host import locks
-from . import environment, keep as keeping, there
+from . import environment, forms, keep as keeping, there
 from .names import is_host, is_user
 from ..cli.report import Refused
 
@@ -20,9 +20,25 @@ PROGRAM = os.path.join(_HERE.removesuffix("/share/rooms/rooms_admin")
                        "bin/rooms")
 
 
+# What files would say.
+_supposed: dict[str, str] = {}
+
+
+@contextmanager
+def supposed(path: str, text: str) -> Iterator[None]:
+    """Meanwhile each reader has this text of a file, which isn't written."""
+    _supposed[path] = text
+    try:
+        yield
+    finally:
+        del _supposed[path]
+
+
 def _text(path: str) -> str:
     """Programs that settings name run as whoever reads them. So they are root's, or the caller's
     own, and nobody else can write to them. What is looked at is what is read."""
+    if path in _supposed:
+        return _supposed[path]
     try:
         with open(os.open(path, os.O_RDONLY | os.O_NONBLOCK | os.O_CLOEXEC), encoding="utf-8",
                   errors="surrogateescape", newline="\n") as source:
@@ -75,10 +91,6 @@ def need(right: object, path: str, name: str, what: str, value: str) -> None:
         raise Refused(f"bad settings: {name} in {path} isn't {what}: '{value}'")
 
 
-def matches(form: str, value: str) -> bool:
-    return re.fullmatch(form, value, re.ASCII) is not None
-
-
 UNIT = r"[A-Za-z0-9_][A-Za-z0-9:_.@-]*"
 _Form = str | Callable[[str], object]
 
@@ -94,7 +106,8 @@ class Setting:
     reads: Callable[[str], Any]
 
     def fits(self, text: str) -> bool:
-        return bool(matches(self.form, text) if isinstance(self.form, str) else self.form(text))
+        return bool(forms.matches(self.form, text) if isinstance(self.form, str)
+                    else self.form(text))
 
     def of(self, path: str, text: str) -> Any:
         need(self.fits(text), path, self.name, self.what, text)
@@ -129,27 +142,17 @@ def given(kind: type, path: str, got: dict[str, str]) -> dict[str, Any]:
             if one.name in got}
 
 
-def _is_absolute(text: str) -> bool:
-    return text.startswith("/")
-
-
-def _is_of_units(text: str) -> bool:
-    """One of the same bytes for systemd, which takes blanks at the end off, and backslashes."""
-    return _is_absolute(text) and text == text.rstrip() and "\\" not in text
-
-
-def is_port(text: str) -> bool:
-    return matches(r"[1-9][0-9]{0,4}", text) and int(text) <= 65535
-
-
-def _is_folder_of_room(text: str) -> bool:
-    return text in ("", "/") or text.startswith("/") and not text.endswith("/")
+def need_own_port(path: str, port: str) -> None:
+    """One beside a room's socket."""
+    first, last = forms.PORTS[0], forms.PORTS[-1]
+    need(int(port) in forms.PORTS, path, "PORT",
+         f"one of {first} to {last}, which the firewall's table closes", port)
 
 
 @dataclass(kw_only=True)
 class Reached:
     """How a room is reached: what nginx's file has to know of it."""
-    port: str = setting("PORT", lambda text: not text or is_port(text), "a port")
+    port: str = setting("PORT", lambda text: not text or forms.is_port(text), "a port")
     title: str = setting("TITLE")
     passwords: str = setting("PASSWORDS", r"(file|directory|session)?",
                              "file, directory or session", reads=lambda text: text or "file")
@@ -164,7 +167,7 @@ class Reached:
     own_passwords: bool = setting("OWN_PASSWORDS", r"yes|no", "yes or no", "yes",
                                   lambda text: text == "yes")
     earlier: str = setting("EARLIER", r"owners|members|no", "owners, members or no", "owners")
-    first_night: str = setting("EARLIER_FROM", r"(\d{4}-\d\d-\d\d(\.\d{6})?)?",
+    first_night: str = setting("EARLIER_FROM", forms.is_night,
                                "a day or the name of a backup, or empty")
 
     @property
@@ -205,10 +208,10 @@ def nightly_unit(name: str) -> str:
 class Kept(Reached):
     """What whoever doesn't get to a room itself knows of it and its backups."""
     conf: str
-    file: str = setting("FILE", _is_of_units, "an absolute path, with no blank at the end and no "
-                        "backslash")
-    backups: str = setting("BACKUPS", _is_absolute, "an absolute path")
-    program: str = setting("PROGRAM", _is_absolute, "an absolute path", PROGRAM)
+    file: str = setting("FILE", forms.is_of_units,
+                        "an absolute path, with no blank at the end and no backslash")
+    backups: str = setting("BACKUPS", forms.is_absolute, "an absolute path")
+    program: str = setting("PROGRAM", forms.is_absolute, "an absolute path", PROGRAM)
 
     @property
     def name(self) -> str:
@@ -238,7 +241,7 @@ class Room(Kept):
     unit: str = setting("UNIT", UNIT, "the name of a unit")
     mail: str = setting("MAIL", r"([^-].*)?", "an address")
     people: str = setting("PEOPLE", r"full|names|no", "full, names or no", "names")
-    review: str = setting("REVIEW", _is_folder_of_room, "a folder of the room")
+    review: str = setting("REVIEW", forms.is_folder_of_room, "a folder of the room")
     reviewer: str = setting("REVIEWER", lambda text: not text or is_user(text), "a user's name")
     days_of_names: int = setting("DATES_NAMES", r"0|[1-9][0-9]{0,3}", "a number of days", "90",
                                  int)
@@ -401,16 +404,11 @@ _SAFE = r"(/[-A-Za-z0-9._/+@,=:]+)?"
 _SAFE_PATH = "an absolute path of A-Z a-z 0-9 - . _ / + @ , = :"
 
 
-def _are_hosts(text: str) -> bool:
-    hosts = text.split()
-    return bool(hosts) and all(is_host(one) or matches(r"\[?[0-9a-f.:]+\]?", one)
-                               for one in hosts)
-
-
 @dataclass(kw_only=True)
 class Front:
     """The site itself: its names, and its certificate if it has one."""
-    hosts: list[str] = setting("HOSTS", _are_hosts, "names of hosts", "rooms.example", str.split)
+    hosts: list[str] = setting("HOSTS", forms.are_hosts, "names of hosts", "rooms.example",
+                               str.split)
     certificate: str = setting("CERTIFICATE", _SAFE, _SAFE_PATH)
     key: str = setting("KEY", _SAFE, _SAFE_PATH)
     unencrypted: bool = yes("UNENCRYPTED")
@@ -460,9 +458,9 @@ class Directory:
 def is_this_machine(host: str) -> bool:
     """A host, perhaps with a port. One that only begins as an address is another machine."""
     if host.startswith("["):
-        return host.startswith("[::1]") and matches(r"\[::1\](:[0-9]*)?", host)
+        return host.startswith("[::1]") and forms.matches(r"\[::1\](:[0-9]*)?", host)
     host = host.partition(":")[0].lower()
-    return host == "localhost" or matches(r"127(\.[0-9]{1,3}){1,3}", host)
+    return host == "localhost" or forms.matches(r"127(\.[0-9]{1,3}){1,3}", host)
 
 
 def directory(path: str) -> Directory:
@@ -494,5 +492,5 @@ def groups(path: str) -> tuple[dict[str, str], int]:
         found[name] = what
     if not found:
         raise Refused(f"bad settings: {path} names no group")
-    need(matches(r"[0-9]{1,6}", most), path, "MOST", "a number", most)
+    need(forms.matches(r"[0-9]{1,6}", most), path, "MOST", "a number", most)
     return found, int(most)

@@ -48,7 +48,7 @@ def run(given: argparse.Namespace) -> int:
         return _tell_rows(rooms)
     if given.look:
         return _tell_one(rooms)
-    if sys.stdout is not None and sys.stdout.isatty():
+    if sys.stdout.isatty():
         raise Refused("bad arguments: without --look this goes on until somebody ends it, which is "
                       "what the unit of a room needs: rooms-admin full --look")
     os.umask(0o022)

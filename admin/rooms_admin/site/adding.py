@@ -7,7 +7,7 @@ import socket
 import time
 
 from ..host import changes
-from ..room import names, published, settings
+from ..room import forms, names, published, settings
 from . import apply, password_files, setting_up, template
 from ..cli.report import Refused, Stop
 from ..host.changes import Changes
@@ -97,13 +97,14 @@ class NewRoom:
 
     def _look_at_port(self, wanted: str) -> str:
         owners = _ports(self.made.root)
-        if not settings.is_port(wanted):
+        if not forms.is_port(wanted):
             raise Refused(f"bad port: '{wanted}'")
         if wanted in owners:
             raise Refused(f"port in use: {owners[wanted]} has {wanted}")
         if _listens(wanted):
             raise Refused(f"port in use: something listens at 127.0.0.1:{wanted} (ss -ltnp shows "
                           "what)")
+        settings.need_own_port(self.conf, wanted)
         return wanted
 
     def _look_at_host(self) -> None:
@@ -234,7 +235,7 @@ def elsewhere(made: Changes, name: str, on: str, port: str, title: str) -> int:
     _look_at_name_here(made, name)
     if not names.is_host(on):
         raise Refused(f"bad host: '{on}'")
-    if not settings.is_port(port):
+    if not forms.is_port(port):
         raise Refused(f"bad port: '{port}'")
     for one in ("front.pem", "front.key", "authority.pem"):
         if not os.path.exists(f"{made.root}{template.MACHINES}/{one}"):

@@ -4,8 +4,9 @@ from contextlib import suppress
 
 from ..host import changes, locks
 from ..backup import for_search
+from ..directory import guests
 from ..room import names, settings
-from . import connections, password_files, ports, served, template, values
+from . import apache, connections, password_files, ports, served, template, values
 from ..host.changes import Changes
 from ..cli.report import Refused, Stop
 
@@ -16,6 +17,8 @@ _DEFAULT = "/etc/nginx/sites-enabled/default"
 FOLDERS = ("/etc/rooms/nginx/http.d", "/etc/rooms/nginx/server.d")
 # It is there from before nginx's files are written until nginx has read them.
 _UNREAD = os.path.join(locks.FOLDER, "nginx~")
+# The Apache of docs/directory.md that knows sessions.
+_SESSIONS = "/etc/rooms/session.apache"
 
 
 def edited(root: str) -> bool:
@@ -76,8 +79,7 @@ def show(made: Changes) -> bool:
     """Whether nginx has the site of the settings now. If it refuses that, all is as before."""
     root = made.root
     # Settings that can't be are refused before anything is changed.
-    wanted = template.gather(root)
-    _look_at_files(root, wanted)
+    wanted = look(root)
     # Also where the site is edited, and stays.
     values.tell_gone(made)
     ports.put(made)
@@ -165,6 +167,26 @@ def enable(made: Changes) -> bool:
         print(f"kept {_LINK}, which isn't a link to {_TARGET}")
         return False
     return made.link(_LINK, _TARGET)
+
+
+def look(root: str) -> template.Site:
+    """The settings of all rooms, if they fit to one another, and what they need is there."""
+    wanted = template.gather(root)
+    _look_at_files(root, wanted)
+    for one in wanted.shown:
+        _look_at_checks(root, one)
+    return wanted
+
+
+def _look_at_checks(root: str, room: settings.Place) -> None:
+    """Where nobody checks its passwords, a room would answer each with 503."""
+    said = f"PASSWORDS={room.passwords} of {room.name} has none yet"
+    if room.passwords == "directory" and not apache.is_there(root):
+        raise Refused(f"no directory: {said}: docs/directory.md, and then rooms-admin setup "
+                      f"--directory {guests.FILE}")
+    if room.passwords == "session" and not os.path.exists(root + _SESSIONS):
+        raise Refused(f"no sessions: {said}: {_SESSIONS} and its unit first, as docs/directory.md "
+                      "has them")
 
 
 def _look_at_files(root: str, wanted: template.Site) -> None:

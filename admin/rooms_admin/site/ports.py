@@ -6,7 +6,7 @@ import os
 
 from ..host import changes
 from ..host.changes import Changes
-from ..room import names, settings
+from ..room import forms, names, settings
 
 _UNITS = "/etc/systemd/system"
 
@@ -44,7 +44,7 @@ def _wanted(root: str) -> dict[str, str]:
                 "", f"rooms@{name}"):
             continue
         port = settings.port(path)
-        if settings.is_port(port):
+        if forms.is_port(port):
             found[name] = port
     return found
 

@@ -8,7 +8,7 @@ import tempfile
 from pwd import getpwnam, struct_passwd
 
 from ..host import changes, commands
-from ..room import program as runs, settings
+from ..room import forms, program as runs, settings
 from ..passwords import passwords
 from ..directory import directory, guests
 from . import apache, apply, password_files, template, values
@@ -42,13 +42,14 @@ def set_up(made: Changes, pair: tuple[str, str] | None, chosen: str,
         _switch(made, chosen, where)
     _keep_directory(made, not chosen)
     password_files.put(made, "office", settings.place(made.root + _OFFICE).keeps)
-    if made.dry and not os.path.exists(made.root + template.SETTINGS):
+    if made.dry and (chosen and not apache.is_there(made.root)
+                     or not os.path.exists(made.root + template.SETTINGS)):
         # Nothing can be rendered from settings that aren't there.
         made.does(f"file {template.FILE}")
         return _end(made, True)
     apply.disable_default(made, default_is_packaged(made.root))
     good = apply.show(made)
-    if chosen and not made.root:
+    if not made.root:
         _run_passwords(made, chosen)
     return _end(made, good)
 
@@ -143,7 +144,7 @@ def look_at_pair(made: Changes, certificate: str, key: str) -> tuple[str, str]:
             raise Refused(f"no file: {path} doesn't exist")
         if not os.access(path, os.R_OK):
             raise Refused(f"no file: {path} can't be read")
-        if not settings.matches(r"[-A-Za-z0-9._/+@,=:]+", path):
+        if not forms.matches(r"[-A-Za-z0-9._/+@,=:]+", path):
             raise Refused(f"bad name: '{path}' has other characters than "
                           "A-Z a-z 0-9 - . _ / + @ , = :")
     wanted = _pem(certificate, "x509", "-noout", "-pubkey")
@@ -175,6 +176,12 @@ def _try_pair(certificate: str, key: str) -> None:
         status, said = changes.run("nginx", "-t", "-q", "-c", f"{place}/conf", check=False)
         if status:
             raise Refused(f"no pair for nginx: {said}")
+
+
+def look_at_settings(made: Changes) -> None:
+    """Where there are some already: nothing is made before they are refused."""
+    if os.path.isdir(made.root + os.path.dirname(_OFFICE)):
+        apply.look(made.root)
 
 
 def look_at_directory(made: Changes, chosen: str) -> settings.Directory | None:
@@ -287,9 +294,14 @@ def _give_key(made: Changes, key: str) -> bool:
 
 
 def _run_passwords(made: Changes, chosen: str) -> None:
-    """Whether or not something has changed, a run with --directory brings it into that state."""
+    """Whether or not something has changed, a run with --directory brings it into that state. A
+    room may ask the directory again after one with 'none'."""
     if chosen == "none":
         made.systemctl("disable", "--now", _UNIT)
+    elif not chosen:
+        if (not os.path.islink(f"/etc/systemd/system/multi-user.target.wants/{_UNIT}")
+                and any(one.passwords == "directory" for one in template.gather("").shown)):
+            made.systemctl("enable", "--now", _UNIT)
     else:
         made.systemctl("daemon-reload")
         made.systemctl("enable", _UNIT)

@@ -85,6 +85,7 @@ def gather(root: str) -> Site:
              else Front())
     found = Site(front, rooms, os.path.join(share(root), "page"), _http2(root))
     _check(found, folder)
+    _check_alone(found, folder)
     return found
 
 
@@ -106,6 +107,26 @@ def _http2(root: str) -> str:
     if done.status or not found:
         return ""
     return "on" if tuple(map(int, found.groups())) >= _HTTP2_ON else "listen"
+
+
+def _check_alone(site: Site, folder: str) -> None:
+    """What one room of this machine alone can have. A file also belongs to one with a unit of
+    somebody's own, which isn't of the site; several settings of one unit are of one server."""
+    files: dict[str, tuple[str, str]] = {}
+    for name in sorted(one for one in os.listdir(folder) if one.endswith(".conf")):
+        path = f"{folder}/{name}"
+        file, unit = (settings.value(path, one) for one in ("FILE", "UNIT"))
+        mine = unit or f"rooms@{settings.name_of(name)}", path
+        other = files.setdefault(os.path.normpath(file), mine) if file else mine
+        if other[0] != mine[0]:
+            raise Refused(f"file in use: {other[1]} has {file} too, and FILE in {path} has to be "
+                          "another one")
+    ports: dict[str, str] = {}
+    for path, port in ((f"{folder}/{one.name}.conf", one.port) for one in site.rooms
+                       if one.port and not one.on):
+        settings.need_own_port(path, port)
+        if (first := ports.setdefault(port, path)) != path:
+            raise Refused(f"port in use: {first} has {port}")
 
 
 def _check(site: Site, folder: str) -> None:

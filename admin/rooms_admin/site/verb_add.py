@@ -18,8 +18,8 @@ def arguments(parser: words.Parser) -> None:
     words.word(parser, "group", "[GROUP]", "and the group of its root")
     words.image(parser)
     words.option(parser, "--host", "HOST", "at '/' of this host, and not behind its name")
-    words.option(parser, "--port", "PORT", "listen at this port of 127.0.0.1 too; or with --on "
-                 "the port of the other machine")
+    words.option(parser, "--port", "PORT", "listen at this port of 127.0.0.1 too, 8780 to 8998; or "
+                 "with --on the port of the other machine")
     words.option(parser, "--title", "TITLE", "what the start page calls it")
     where = parser.add_mutually_exclusive_group()
     words.flag(where, "--behind", "for the front end on another machine alone")

@@ -1,6 +1,7 @@
 """Settings of a room, or of the site, by their names: each is put in the place of its last line, or
-at the end, and all other lines stay. What the file would say then is looked at first, so nothing
-that a verb would refuse is written. Last it prints what has to be done so that they count."""
+at the end, and all other lines stay. What the file would say then is looked at first, together with
+those of all rooms, so nothing that a verb would refuse is written. Last it prints what has to be
+done so that they count."""
 import argparse
 import os
 
@@ -9,7 +10,7 @@ from ..cli import alike, words
 from ..host import locks
 from ..host.changes import Changes, changes_asked_for
 from ..room import server, settings, there
-from . import template, values
+from . import apply, template, values
 from ..cli.report import Refused, say
 
 # Who reads what only when it starts.
@@ -68,9 +69,30 @@ def _need_places(path: str, wanted: dict[str, str]) -> None:
         there.folder(path, wanted["FILE"])
 
 
-def _tell(root: str, path: str, changed: set[str], kind: type) -> None:
-    """What has them count. Other settings are read by each run. What doesn't fit to those of other
-    rooms, setup would refuse."""
+def _refusal(root: str) -> str:
+    """What setup says against the settings of all rooms."""
+    try:
+        apply.look(root)
+    except Refused as why:
+        return str(why)
+    return ""
+
+
+def _look_at_all(root: str, path: str, text: str) -> str:
+    """What setup would refuse isn't written. Where it refuses them already, several files may have
+    to change, one by one: what it says then is told."""
+    if not os.path.isdir(root + "/etc/rooms"):
+        return ""
+    before = _refusal(root)
+    with settings.supposed(root + path, text):
+        then = _refusal(root)
+    if then and not before:
+        raise Refused(then)
+    return then
+
+
+def _tell(path: str, changed: set[str], kind: type, refusal: str) -> None:
+    """What has them count. Other settings are read by each run."""
     name = settings.name_of(path)
     site = {one.name for one in settings.of_kind(settings.Reached).values()} - {"EARLIER_FROM"}
     todo = []
@@ -81,11 +103,8 @@ def _tell(root: str, path: str, changed: set[str], kind: type) -> None:
         todo += [f"systemctl restart {unit}@{name}" for unit in units]
     if todo:
         print(f"it counts after: {'; '.join(todo)}")
-    if "rooms-admin setup" in todo:
-        try:
-            template.gather(root)
-        except Refused as why:
-            say(str(why))
+    if refusal and "rooms-admin setup" in todo:
+        say(refusal)
 
 
 def run(given: argparse.Namespace) -> int:
@@ -97,17 +116,19 @@ def run(given: argparse.Namespace) -> int:
             raise Refused(f"no settings: {path} isn't there")
         wanted = _wanted(given.values, path, settings.known(kind))
         text = template.read(made.root + path)
-        settings.look_at(path, values.changed(text, wanted))
+        then = values.changed(text, wanted)
+        settings.look_at(path, then)
         _need_unit(made, path, wanted.get("UNIT", ""))
         if not made.root:
             _need_places(path, wanted)
+        refusal = _look_at_all(made.root, path, then)
         changed = {name for name, value in wanted.items()
                    if settings.value(made.root + path, name) != value}
         values.set_values(made, path, wanted)
     if not changed:
         print("nothing to change")
     elif not made.dry:
-        _tell(made.root, path, changed, kind)
+        _tell(path, changed, kind, refusal)
         if "BACKUPS" in changed and not made.root:
             _see_backups(path)
     if "FILE" in changed and not made.root and not os.path.exists(wanted["FILE"]):

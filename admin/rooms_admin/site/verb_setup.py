@@ -1,4 +1,4 @@
-"""setup: the user, the folders, the settings of the room office, and nginx's site as the settings
+"""Makes the users, the folders, the settings of the room office, and nginx's site, as the settings
 of all rooms say. It makes, opens and changes no room. A second run changes nothing."""
 import argparse
 
@@ -21,4 +21,6 @@ def run(given: argparse.Namespace) -> int:
         pair = setting_up.look_at_pair(made, *given.tls) if given.tls else None
         where = setting_up.look_at_directory(made, given.directory) if given.directory else None
         setting_up.look_at_guests(made, given.directory)
+        if not (given.tls or given.directory):
+            setting_up.look_at_settings(made)
         return setting_up.set_up(made, pair, given.directory, where)

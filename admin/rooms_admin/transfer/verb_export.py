@@ -9,7 +9,7 @@ import argparse
 import os
 
 from ..cli import words
-from ..room import private_server, settings
+from ..room import forms, private_server, settings
 from ..backup import backups
 from . import exporting
 from ..lists import asked
@@ -29,7 +29,7 @@ def arguments(parser: words.Parser) -> None:
 
 
 def run(given: argparse.Namespace) -> int:
-    if not settings.matches(r"0?[0-7]{3}", given.umask):
+    if not forms.matches(r"0?[0-7]{3}", given.umask):
         raise Refused(f"bad arguments: --umask is three digits such as 022, not '{given.umask}'")
     os.umask(int(given.umask, 8))
     path, into = asked.path(given.path), argument(given.into).rstrip(b"/")

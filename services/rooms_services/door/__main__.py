@@ -67,7 +67,7 @@ def _given() -> argparse.Namespace:
 
 
 def main() -> int:
-    output.open_both()
+    output.open_all()
     given = _given()
     try:
         kept = given.kept or os.path.dirname(given.listen)
