@@ -14,19 +14,21 @@ import time
 import types
 import typing
 import unittest
+from unittest import mock
 
 ADMIN = os.path.join(os.path.dirname(os.path.abspath(__file__)), "..", "..", "admin")
 sys.path.insert(0, ADMIN)
 
 from rooms_admin.host import (  # noqa: E402
     as_user, commands, handed_on, locks, processes, waiting)
+from rooms_admin.cli.report import Stop  # noqa: E402
 from rooms_admin.room import program  # noqa: E402
 
 OOM = "/proc/self/oom_score_adj"
 SMALL = {resource.RLIMIT_NOFILE: 60, resource.RLIMIT_FSIZE: 1 << 20, resource.RLIMIT_CPU: 9,
          resource.RLIMIT_STACK: 1 << 20}
 # The numbers of the system's own headers.
-SET_LATE, LATE = 29, 30
+SET_LATE, LATE, PRCTL = 29, 30, 157
 
 
 def made_theirs() -> None:
@@ -109,6 +111,36 @@ class Sockets(unittest.TestCase):
             except PermissionError:
                 return [["none"]]
         self.assertEqual(as_user.as_user(pwd.getpwnam("nobody"), look), [["none"]])
+
+    def test_without_a_filter_nothing_begins(self) -> None:
+        """Where the kernel takes none, here by a filter before; or on another processor."""
+        room = typing.cast(typing.Any, types.SimpleNamespace(
+            program="/bin/echo", owner=65534, group=65534, memory=0))
+
+        def began() -> list[object]:
+            said: list[object] = []
+            for before in (processes.make_no_folders, processes.hand_on_no_right):
+                with commands.started(["echo", "began"], before) as one:
+                    out, told = one.communicate()
+                    said += [one.returncode, out.decode(), told.decode().partition(":")[0]]
+            for status, printed, why in (program.run(room, ["groups"]),
+                                         program.on_text(room, "would", b"")):
+                said += [status, printed.decode(), why.partition(":")[0]]
+            try:
+                said += as_user.as_user(pwd.getpwnam("nobody"), lambda: [["began"]])
+            except Stop as fault:
+                said.append(str(fault).partition(":")[0])
+            return said
+
+        def refused() -> list[object]:
+            processes._refuse(processes._refusing(PRCTL))
+            return began()
+        no_filter = [3, "", "no filter of calls"]
+        fewer = [3, "", "no fewer rights"]
+        rest = [*no_filter * 2, "no filter of calls"]
+        self.assertEqual(waiting.answer(20, refused, "x"), [*no_filter, *fewer, *rest])
+        with mock.patch.object(processes, "_IS_THAT_ONE", False):
+            self.assertEqual(began(), [*no_filter, 0, "began\n", "", *rest])
 
 
 def asks(folder: str, says: int, user: str, until: int = -1) -> None:
