@@ -84,19 +84,23 @@ class HandedOn(unittest.TestCase):
 
 @unittest.skipUnless(os.geteuid() == 0, "what root alone hands on")
 class Sockets(unittest.TestCase):
-    """Whoever took a program over by the file that it reads would send that elsewhere."""
+    """Whoever took a program over by the file that it reads would send that elsewhere, or leave
+    folders in one another without end."""
 
     def test_the_program_makes_none(self) -> None:
         with tempfile.TemporaryDirectory() as folder:
             os.chmod(folder, 0o755)
             with open(f"{folder}/program", "w", encoding="ascii") as made:
-                made.write("#!/usr/bin/python3 -I\nimport socket\nsocket.socket(socket.AF_UNIX)\n")
+                made.write("#!/usr/bin/python3 -I\nimport os, socket, sys\n"
+                           "for act in (socket.socket, lambda: os.mkdir('/var/tmp/made')):\n"
+                           "    try:\n        act()\n        print('done', file=sys.stderr)\n"
+                           "    except PermissionError:\n        print('none', file=sys.stderr)\n")
             os.chmod(f"{folder}/program", 0o755)
             room = typing.cast(typing.Any, types.SimpleNamespace(
                 program=f"{folder}/program", owner=65534, group=65534, memory=0))
             for _, _, said in (program.on_copy(room, f"{folder}/program", ["verify"]),
                                program.run(room, ["groups"]), program.on_text(room, "would", b"")):
-                self.assertRegex(said, r"\nPermissionError: ")
+                self.assertEqual(said, "none\nnone")
 
     def test_nor_does_another_make_folders(self) -> None:
         with commands.started(["mkdir", "x"], processes.make_no_folders,
@@ -105,12 +109,17 @@ class Sockets(unittest.TestCase):
 
     def test_nor_does_a_look_as_its_user(self) -> None:
         def look() -> list[list[str]]:
-            try:
-                socket.socket(socket.AF_UNIX)
-                return [["made"]]
-            except PermissionError:
-                return [["none"]]
-        self.assertEqual(as_user.as_user(pwd.getpwnam("nobody"), look), [["none"]])
+            said = []
+            acts: list[typing.Callable[[], object]] = [
+                socket.socket, lambda: os.mkdir("/var/tmp/made")]
+            for act in acts:
+                try:
+                    act()
+                    said.append(["made"])
+                except PermissionError:
+                    said.append(["none"])
+            return said
+        self.assertEqual(as_user.as_user(pwd.getpwnam("nobody"), look), [["none"], ["none"]])
 
     def test_without_a_filter_nothing_begins(self) -> None:
         """Where the kernel takes none, here by a filter before; or on another processor."""

@@ -30,6 +30,7 @@ def _become(user: pwd.struct_passwd) -> None:
         os.setresgid(user.pw_gid, user.pw_gid, user.pw_gid)
         os.setresuid(user.pw_uid, user.pw_uid, user.pw_uid)
         processes.reach_nobody()
+        processes.make_no_folders()
 
 
 def _found(user: pwd.struct_passwd, work: Work) -> list[list[str]] | str:
