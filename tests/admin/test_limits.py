@@ -12,7 +12,8 @@ from unittest.mock import patch
 sys.path.insert(0, os.path.join(os.path.dirname(__file__), "..", "..", "admin"))
 
 from rooms_admin.host import root  # noqa: E402
-from rooms_admin.room import fullness, limit, needs, size  # noqa: E402
+from rooms_admin.room import fullness, limit, needs, settings, size  # noqa: E402
+from rooms_admin.site import connections  # noqa: E402
 from rooms_admin.backup import night, texts  # noqa: E402
 from rooms_admin.check import watched  # noqa: E402
 from rooms_admin.room.needs import Need  # noqa: E402
@@ -173,6 +174,19 @@ class Needs(Folder):
         with contextlib.redirect_stderr(io.StringIO()):
             run.note_need()
         self.assertIn("rooms-need can't be written: ", run.failures[0])
+
+
+class Connections(unittest.TestCase):
+    def test_those_of_one_address_fit_into_a_quarter_of_the_memory(self) -> None:
+        with patch.object(connections, "of_process", return_value=768), \
+                patch.object(connections, "_processes", return_value=4):
+            for gigabytes, most in ((1, 170), (2, 341), (4, 682), (16, 1536)):
+                pages = {"SC_PAGE_SIZE": 4096, "SC_PHYS_PAGES": gigabytes << 18}
+                with patch.object(os, "sysconf", pages.__getitem__):
+                    self.assertEqual(connections.most("", settings.Front()), most)
+                    self.assertEqual(connections.most("/image", settings.Front()), 1536)
+                    own = settings.Front(connections="2000")
+                    self.assertEqual(connections.most("", own), 2000)
 
 
 if __name__ == "__main__":
