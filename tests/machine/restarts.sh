@@ -43,6 +43,20 @@ else
   skip 'processes that go last' 'root may not have them do so here'
 fi
 
+# A watch over the size that ends at once is started again and again, and hasn't failed: the night
+# tells it.
+does 'a watch that ends at once' 'unit=/etc/systemd/system/rooms-full@.service.d; mkdir -p $unit
+  printf "%s\n" "[Service]" ExecStart= ExecStart=/bin/false RestartSec=100ms >$unit/ends.conf
+  systemctl daemon-reload; systemctl restart rooms-full@office || :
+  sleep 5'
+inside 'systemctl start rooms-nightly@office'
+holds 'has the nightly run fail, which is mailed' [ "$status" != 0 ]
+says_watch='journalctl --sync; journalctl -u rooms-nightly@office --no-pager -o cat'
+inside "$says_watch | grep -c \"rooms-full@office doesn't stay: systemctl status\""
+prints 'by that name' 1
+does 'it stays again' 'rm -r /etc/systemd/system/rooms-full@.service.d; systemctl daemon-reload
+  systemctl restart rooms-full@office; systemctl reset-failed; systemctl start rooms-nightly@office'
+
 # What has no answer is lost; the command's own words are kept.
 asked_while() { # NAME COMMAND [TARGET]: what came of it is in the file numbers
   inside "{ sleep 1; { $2; } >said 2>&1 || echo failed >>said; sleep 1; } |
