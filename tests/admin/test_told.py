@@ -1,5 +1,6 @@
 """Parts that need no room: what is told and to whom, passwords, and what is left of a verb that is
 killed."""
+import argparse
 import contextlib
 import io
 import os
@@ -20,7 +21,7 @@ from rooms_admin.room import (fullness, http_client, names, published, server, s
 from rooms_admin.passwords import password_rules, passwords
 from rooms_admin.lists import dump
 from rooms_admin.people import users, verb_user
-from rooms_admin.directory import guests
+from rooms_admin.directory import directory, guests
 from rooms_admin.machine_tar import machine
 from rooms_admin.site import password_files, template
 from rooms_admin.check import finding, verb_check, verb_tell
@@ -128,6 +129,16 @@ class Told(unittest.TestCase):
                 verb_tell.run(given)
             self.assertEqual([verb_tell.run(given) for _ in range(2)], [0, 0])
             self.assertEqual(len(sent), 2)
+
+    def test_each_unit_that_asks_for_it(self) -> None:
+        """Also sockets, such as that of a room's port, which another program may have."""
+        folder = pathlib.Path(__file__).parents[2] / "deploy/systemd"
+        units = [one.name.replace("@.", "@office.") for one in folder.iterdir()
+                 if "OnFailure=rooms-tell@" in one.read_text(encoding="utf-8")]
+        self.assertIn("rooms-port@office.socket", units)
+        with unittest.mock.patch.object(verb_tell, "mail_of", return_value=""):
+            for unit in units:
+                self.assertEqual(verb_tell.run(argparse.Namespace(unit=unit)), 0, unit)
 
     def test_each_warning_has_a_name_of_its_own(self) -> None:
         """Systemd starts nothing for a second time while it is at work, as a slow mail is."""
@@ -310,8 +321,14 @@ class Guests(unittest.TestCase):
     def look(self, in_file: str, has_guests: bool) -> list[str]:
         room = settings.Place(name="office", on="", passwords="directory", guests=has_guests)
         where = settings.Directory()
-        with tempfile.TemporaryDirectory() as root, unittest.mock.patch.object(
-                guests, "_names", return_value={"alice", "bob"}):
+
+        def search(_asked: object, _base: str, _whole: bool, filter_: str, _wanted: list[str]
+                   ) -> list[directory.Entry]:
+            return [directory.Entry("", {"uid": [one]}) for one in ("alice", "bob")
+                    if f"(uid={one})" in filter_.lower()]
+        with tempfile.TemporaryDirectory() as root, unittest.mock.patch.multiple(
+                directory.Directory, __init__=lambda asked, where: setattr(asked, "where", where),
+                quoted=staticmethod(str), search=search):
             os.makedirs(root + os.path.dirname(passwords.old_of("office")))
             with open(root + passwords.old_of("office"), "w", encoding="utf-8") as out:
                 out.write(in_file)
