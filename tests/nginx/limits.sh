@@ -84,7 +84,7 @@ done
 # No other body than a document's goes to the door as it comes, where so few have a place.
 head -c 1200000 /dev/zero >larger
 ask 'a list that is too large' 413 - alice:a /door/dacl/plan -X PUT --data-binary @larger \
-  -H 'Transfer-Encoding: chunked' -H 'If-Match: *'
+  -H 'If-Match: *'
 holds 'is refused before the door' eval '! grep -q why "$work/body"'
 ask 'a document' 413 - alice:a /door/doc/plan -X PUT --data-binary @larger \
   -H 'Transfer-Encoding: chunked' -H 'If-Match: *'
