@@ -1,5 +1,6 @@
 """Locks of documents that are edited in place, over a room in memory."""
 import os
+import re
 import time
 import unittest
 from unittest import mock
@@ -8,6 +9,7 @@ from over import LOCKINFO, Drive
 from rooms_services.door.webdav import locks
 from rooms_services.door.webdav.kept import Kept, NotKept
 from rooms_services.room.paths import Names
+from rooms_services.room.room import Denials
 
 
 class Locking(Drive):
@@ -114,6 +116,48 @@ class Locking(Drive):
             status, _, body = self.dav("PROPFIND", "/board", user=user, Depth="1")
             self.assertEqual((status, b"/drive/board/secret" in body, b"activelock" in body),
                              (207, True, told))
+
+    def told_bob(self, *locked: str) -> list[object]:
+        """What he is told, and what is asked for him, once alice has locked these; and how many
+        denials he has left."""
+        places = ("/", "/none", "/board", "/board/secret", "/board/none", "/board/sub/deep",
+                  "/shut/x", "/proj", "/proj/closed", "/proj/closed/x", "/mine/a", "/mine/none/x")
+        asked: list[tuple[str, str, dict[str, str]]] = [
+            (method, path, {"Depth": depth}) for path in places for depth in ("0", "infinity")
+            for method in ("PUT", "DELETE", "MKCOL", "LOCK")]
+        asked += [(method, path, {"Destination": f"/drive{to}"})
+                  for method in ("MOVE", "COPY") for path in places for to in places]
+        told = list[object]()
+        self.door.room.denials = Denials(1e6, 0.0)
+        for path in locked:
+            self.lock(path, Depth="0")
+        held = self.lock("/mine/a", "bob", Depth="0")
+        objects = dict(self.room.objects)
+        for method, path, fields in asked:
+            self.room.objects = dict(objects)
+            self.room.seen.clear()
+            status, given, body = self.dav(
+                method, path, LOCKINFO % "bob" if method == "LOCK" else "", "bob", **fields)
+            seen = [one for one in self.room.seen if " GET /can/" not in one]
+            if token := given.get("Lock-Token"):
+                self.dav("UNLOCK", path, "", "bob", Lock_Token=token)
+            told.append((method, path, fields, status, re.sub(
+                rb"[0-9a-f-]{12,}", b"*", body), re.sub("[0-9a-f-]{12,}", "*", str(seen))))
+        self.dav("UNLOCK", "/mine/a", "", "bob", Lock_Token=held)
+        return [*told, self.door.room.denials.left("bob")]
+
+    def test_a_closed_folder_tells_of_no_lock_by_what_else_is_asked(self) -> None:
+        """Of a room with locks behind closed folders, which he may not remove, he is told the same
+        as of one without them."""
+        self.make(board=None, board__secret=b"s", board__sub=None, board__sub__deep=b"s", shut=None,
+                  proj=None, proj__closed=None, proj__closed__x=b"x", mine=None, mine__a=b"m")
+        for closed in ("/board", "/shut", "/proj/closed"):
+            self.room.denied |= {("bob", closed, "x"), ("bob", closed, "d")}
+        self.room.denied |= {("bob", "/", "D"), ("bob", "/proj", "D"), ("bob", "/proj", "d")}
+        without = self.told_bob()
+        told = self.told_bob("/board/secret", "/board/sub/deep", "/proj/closed/x")
+        self.assertEqual([], [(one, other) for one, other in zip(without, told, strict=True)
+                              if one != other])
 
     def test_a_lock_ends_with_the_right(self) -> None:
         """It isn't renewed by who may not take it any more."""

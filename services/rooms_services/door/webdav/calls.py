@@ -69,6 +69,13 @@ class Call:
         return self.room.denials.note(
             self.user, self._talk.ask(ask) if self._talk else self.room.ask(self.user, ask))
 
+    def is_open(self, names: Names) -> bool:
+        """Whether the way to it is. The caller asked for nothing there, so no denial of it counts:
+        how many they have left would tell of a lock."""
+        can = about("GET", "can", names)
+        reply = self._talk.ask(can) if self._talk else self.room.ask(self.user, can)
+        return reply.status == 200 or reply.status == 404 and objects.is_about(reply, names)
+
     def row(self, asks: list[Ask]) -> list[Reply]:
         """Only of what changes nothing."""
         if self._talk:
@@ -205,20 +212,24 @@ class Drive:
             there += [lock for lock in self.locks.covering(names[:-1]) if not lock.deep]
         if tree:
             there += self.locks.below(names)
+        if there and not call.is_open(names):
+            # The room says what stands against it, in its own order: nobody learns of a lock behind
+            # a folder that denies them the way.
+            return
         for lock in there:
             if late and lock.passing or lock.token in call.tokens or lock.shared and any(
                     other.token in call.tokens for other in there if other.names == lock.names):
                 continue
-            self._passes(call, names)
             if told := self._told(call, names, lock):
                 raise Stop(423, "locked", told)
 
     def _told(self, call: Call, names: Names, lock: Lock) -> str:
         """A lock is named where the way to it is open. Of another one nobody is told who may not
-        move or remove what it is in: the room says that, as where nothing is locked."""
-        if call.ask(about("GET", "can", lock.names)).status != 403:
+        move or remove what it is in, as nobody may the root: the room says that, as where nothing
+        is locked."""
+        if call.is_open(lock.names):
             return f"locked by {lock.user}: {lock.path}"
-        if trees.kept(call, [(names, True)]):
+        if not names or trees.kept(call, [(names, True)]):
             return ""
         return f"something in it is locked: {shown(names)}"
 
@@ -231,12 +242,6 @@ class Drive:
                 if len(lock.names) == len(names) + 1:
                     found.setdefault(lock.names[-1], []).append(lock)
         return found
-
-    def _passes(self, call: Call, names: Names) -> None:
-        """Nobody learns of a lock behind a folder that denies them the way."""
-        reply = call.ask(about("GET", "can", names))
-        if reply.status == 403:
-            raise stop_of(reply)
 
     @contextmanager
     def reserved(self, call: Call, *places: Names) -> Iterator[None]:
