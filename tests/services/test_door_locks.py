@@ -172,6 +172,34 @@ class Locking(Drive):
             self.room.denied -= denied
             self.assertEqual(self.status("LOCK", path, If=f"({token})"), 200)
 
+    def test_a_lock_of_a_name_alone(self) -> None:
+        """It took no right to what comes there by another way, and is over then."""
+        self.make(f=None)
+        tokens = {name: self.lock(f"/f/{name}", "bob", Depth="infinity")
+                  for name in ("2027", "plan", "new", "own")}
+        self.assertEqual(self.status("PUT", "/f/2027", "x"), 423)
+        self.assertEqual(self.status("MKCOL", "/f/2027/x"), 409)
+        self.make(f__2027=None, f__plan=b"1", f__new=b"2", f__own=b"3")
+        for name in ("2027", "plan", "new"):
+            self.room.denied |= {("bob", f"/f/{name}", bit) for bit in "wadCx"}
+            self.assertEqual(self.status("LOCK", f"/f/{name}", user="bob",
+                                         If=f"({tokens[name]})"), 403)
+        # Nor does what he tries there make it one of what is there.
+        for method in ("MOVE", "COPY", "UNLOCK"):
+            self.assertIn(self.status(method, "/f/new", user="bob", Destination="/drive/f/x",
+                                      Lock_Token=tokens["plan"], If=f"({tokens['new']})"),
+                          (201, 403, 409))
+        asked = [("MKCOL", "/f/2027/x", 201), ("PUT", "/f/2027/a", 201), ("PUT", "/f/plan", 204),
+                 ("PUT", "/f/new", 204), ("LOCK", "/f/plan", 200), ("DELETE", "/f/2027/a", 204)]
+        for method, path, wanted in asked:
+            body = LOCKINFO % "alice" if method == "LOCK" else "y" if method == "PUT" else ""
+            self.assertEqual(self.status(method, path, body), wanted, (method, path))
+        # Whoever may write what came there renews it for that.
+        held = {"If": f"({tokens['own']})"}
+        self.assertEqual(self.status("LOCK", "/f/own", user="bob", **held), 200)
+        self.assertEqual(self.status("PUT", "/f/own", "x"), 423)
+        self.assertEqual(self.status("PUT", "/f/own", "x", user="bob", **held), 204)
+
     def test_a_lock_that_came_between(self) -> None:
         """Others are answered after it was looked for locks, and before a folder is reserved."""
         self.make(f=None, f__a=b"x")

@@ -27,8 +27,12 @@ def _new(drive: Drive, call: Call, root: Node, deep: bool, seconds: int) -> Answ
     if scope is None or not (scope.first("exclusive") or scope.first("shared")):
         raise Stop(422, "bad-lock", "such a lock isn't known")
     found = _lockable(drive, call)
-    if isinstance(found, Folder) and deep:
+    # (nothing else has something below it, and what isn't there yet may become a folder)
+    deep = deep and isinstance(found, Folder)
+    if deep:
         _may_hold(call, call.names)
+    for lock in drive.locks.covering(call.names) + (drive.locks.below(call.names) if deep else []):
+        drive.is_over(call, lock)
     held = drive.locks.add(call.user, call.names, deep, scope.first("shared") is not None,
                            _owner(call, root), seconds)
     if held is None:
@@ -82,13 +86,15 @@ def _refresh(drive: Drive, call: Call, seconds: int) -> Answer:
 
 def _may_keep(drive: Drive, call: Call, held: Lock) -> None:
     """As for a new one: whoever lost the right keeps it for the rest of its time."""
-    found = drive.look(call, held.names)
-    if held.pending or found is None:
+    found = objects.look(call, held.names, False)
+    if found is None:
         objects.may(call, held.names[:-1], "w")
-    elif held.deep and isinstance(found, Folder):
+        return
+    if held.deep and isinstance(found, Folder):
         _may_hold(call, held.names)
     else:
         objects.may(call, held.names, "wa")
+    held.pending = False
 
 
 def _locked(drive: Drive, call: Call, held: Lock, status: int) -> Answer:
