@@ -100,15 +100,16 @@ def make(room: Room) -> None:
             shutil.rmtree(part, ignore_errors=True)
             hours.remove_left(room)
             own = owned.enter_context(private_server.own_folder(room))
+            began = time.time()
             copied = copy(room, own)
             if copied is not None:
                 keep(room, copied, own, part)
                 try:
-                    send(room)
-                finally:
-                    # Whether or not the other machine has it.
                     if room.hours:
-                        hours.keep(room, os.path.join(backups.folder(room), "standby"))
+                        hours.keep(room, os.path.join(backups.folder(room), "standby"), began)
+                finally:
+                    # Whether or not there is one of the hour.
+                    send(room)
         finally:
             report.ignore_signals()
             shutil.rmtree(part, ignore_errors=True)
