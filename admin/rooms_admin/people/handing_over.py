@@ -4,7 +4,7 @@ import os
 from collections.abc import Iterator
 
 from ..cli import alike, report
-from ..room import names, settings
+from ..room import in_parts, names, settings
 from ..passwords import passwords
 from ..lists import dump
 from . import known
@@ -64,7 +64,10 @@ def _look_at(lists: str, giver: str, taker: str) -> None:
 
 def give(room: str, caller: Caller, lists: str, giver: str, taker: str, dry: bool) -> int:
     asked = client(room, caller, "the same command goes on where this one stopped", True)
-    mine = [one.path for one in rows(lists) if isinstance(one, dump.Object) and one.owner == giver]
+    mine = {one.path: one.kind for one in rows(lists)
+            if isinstance(one, dump.Object) and one.owner == giver}
+    # A large document stands for its parts.
+    parts = in_parts.hidden(os.fsdecode(path) for path in mine if mine[path] == "document")
     handed = others = 0
     for number, path in enumerate(mine, 1):
         report.progress(f"{number} of {len(mine)}: {os.fsdecode(path)}")
@@ -73,19 +76,21 @@ def give(room: str, caller: Caller, lists: str, giver: str, taker: str, dry: boo
             asked.report(path, f"its owner isn't read: {got.text()}")
             continue
         row = json.loads(got.body)
+        is_one = os.fsdecode(path) not in parts
         if row["owner"] != giver:
-            others += 1
+            others += is_one
         elif dry and not asked.may(path, "o"):
             asked.report(path, "not given then: the right o is denied")
         elif dry:
-            handed += 1
+            handed += is_one
             report.end_progress()
-            print(f"would: {names.shown(path)}")
+            if is_one:
+                print(f"would: {names.shown(path)}")
         else:
             body = json.dumps({"group": row["group"], "owner": taker}, separators=(",", ":"))
             got = asked.ask("PUT", "attr", path, body.encode())
             if got.status == 204:
-                handed += 1
+                handed += is_one
             else:
                 asked.report(path, f"not given: {got.text()}")
     report.end_progress()

@@ -1,8 +1,9 @@
 """Gives all documents and folders of the user FROM to TO, for instance when somebody has left.
 LISTS is a file with what `rooms dump` prints, such as lists.txt of a backup: it says where they
-are. Each keeps its group and its lists. Whoever asks needs the rights t and o on each object. What
-belongs to somebody else by now stays as it is, and the same command can be repeated. Where nobody
-is called FROM it ends with 1, and where nobody is called TO with 2."""
+are. Each keeps its group and its lists, and a large document is one with its parts. Whoever asks
+needs the rights t and o on each object. What belongs to somebody else by now stays as it is, and
+the same command can be repeated. Where nobody is called FROM it ends with 1, and where nobody is
+called TO with 2."""
 import argparse
 
 from ..cli import words
