@@ -99,8 +99,8 @@ def add(place: str, room: Room | None, asked: Words, text: str) -> int:
     if room and asked.joins:
         with joining.locked(room, keeps=not asked.is_dry) as newest_one:
             change = _looked(room, asked, asked.pairs(asked.joins), set())
+            _show(change)
             if asked.is_dry:
-                _show(change)
                 return 0
             _give(place, asked, text)
             _make(room, change, newest_one)
