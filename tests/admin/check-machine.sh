@@ -24,6 +24,12 @@ checks 'a certificate' 0 'the certificate ends on '
 certificate 20
 checks 'one that ends soon' 1 'the certificate /etc/ssl/rooms.pem ends on ' \
   'docs/operating.md, Renewal'
+certificate 20
+mv root/etc/ssl/rooms.pem above.pem
+certificate 90
+cat above.pem >>root/etc/ssl/rooms.pem
+checks 'one behind it that ends soon' 1 'the certificate /etc/ssl/rooms.pem ends on ' \
+  'with one that certifies it: docs/operating.md, Renewal'
 certificate -1
 checks 'one that has expired' 2 'the certificate /etc/ssl/rooms.pem has expired, on '
 certificate 90

@@ -203,9 +203,9 @@ spent() { # hundredths of a second, of the watch and whatever it started
 before=$(spent)
 sleep 5
 holds "five looks take less than 0.06 s: $before, $(spent)" [ $(($(spent) - before)) -lt 6 ]
-# root's locks are where nobody else gets to.
-if [ "$(id -u)" = 0 ]; then locks=run/.rooms-admin; else locks=run/rooms-full/locks; fi
-holds 'its lock is in a folder of its own' [ "$(stat -c '%a %u' "$locks")" = "700 $(id -u)" ]
+# root's locks are where nobody else gets to, and others' are closed.
+if [ "$(id -u)" = 0 ]; then set -- 700 run/.rooms-admin; else set -- 600 run/rooms-full/full.*; fi
+holds 'its lock is nobody else'"'"'s' [ "$(stat -c '%a %u' "${@:2}" | sort -u)" = "$1 $(id -u)" ]
 fulls
 told 'a second one for the same port' 2 'busy: another verb of rooms-admin is at work with full'
 holds 'leaves the flag' is_there "$flag"

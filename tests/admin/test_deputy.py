@@ -14,19 +14,21 @@ import time
 import types
 import typing
 import unittest
+from unittest import mock
 
 ADMIN = os.path.join(os.path.dirname(os.path.abspath(__file__)), "..", "..", "admin")
 sys.path.insert(0, ADMIN)
 
 from rooms_admin.host import (  # noqa: E402
     as_user, commands, handed_on, locks, processes, waiting)
+from rooms_admin.cli.report import Stop  # noqa: E402
 from rooms_admin.room import program  # noqa: E402
 
 OOM = "/proc/self/oom_score_adj"
 SMALL = {resource.RLIMIT_NOFILE: 60, resource.RLIMIT_FSIZE: 1 << 20, resource.RLIMIT_CPU: 9,
          resource.RLIMIT_STACK: 1 << 20}
 # The numbers of the system's own headers.
-SET_LATE, LATE = 29, 30
+SET_LATE, LATE, PRCTL = 29, 30, 157
 
 
 def made_theirs() -> None:
@@ -82,19 +84,23 @@ class HandedOn(unittest.TestCase):
 
 @unittest.skipUnless(os.geteuid() == 0, "what root alone hands on")
 class Sockets(unittest.TestCase):
-    """Whoever took a program over by the file that it reads would send that elsewhere."""
+    """Whoever took a program over by the file that it reads would send that elsewhere, or leave
+    folders in one another without end."""
 
     def test_the_program_makes_none(self) -> None:
         with tempfile.TemporaryDirectory() as folder:
             os.chmod(folder, 0o755)
             with open(f"{folder}/program", "w", encoding="ascii") as made:
-                made.write("#!/usr/bin/python3 -I\nimport socket\nsocket.socket(socket.AF_UNIX)\n")
+                made.write("#!/usr/bin/python3 -I\nimport os, socket, sys\n"
+                           "for act in (socket.socket, lambda: os.mkdir('/var/tmp/made')):\n"
+                           "    try:\n        act()\n        print('done', file=sys.stderr)\n"
+                           "    except PermissionError:\n        print('none', file=sys.stderr)\n")
             os.chmod(f"{folder}/program", 0o755)
             room = typing.cast(typing.Any, types.SimpleNamespace(
                 program=f"{folder}/program", owner=65534, group=65534, memory=0))
             for _, _, said in (program.on_copy(room, f"{folder}/program", ["verify"]),
                                program.run(room, ["groups"]), program.on_text(room, "would", b"")):
-                self.assertRegex(said, r"\nPermissionError: ")
+                self.assertEqual(said, "none\nnone")
 
     def test_nor_does_another_make_folders(self) -> None:
         with commands.started(["mkdir", "x"], processes.make_no_folders,
@@ -103,12 +109,47 @@ class Sockets(unittest.TestCase):
 
     def test_nor_does_a_look_as_its_user(self) -> None:
         def look() -> list[list[str]]:
+            said = []
+            acts: list[typing.Callable[[], object]] = [
+                socket.socket, lambda: os.mkdir("/var/tmp/made")]
+            for act in acts:
+                try:
+                    act()
+                    said.append(["made"])
+                except PermissionError:
+                    said.append(["none"])
+            return said
+        self.assertEqual(as_user.as_user(pwd.getpwnam("nobody"), look), [["none"], ["none"]])
+
+    def test_without_a_filter_nothing_begins(self) -> None:
+        """Where the kernel takes none, here by a filter before; or on another processor."""
+        room = typing.cast(typing.Any, types.SimpleNamespace(
+            program="/bin/echo", owner=65534, group=65534, memory=0))
+
+        def began() -> list[object]:
+            said: list[object] = []
+            for before in (processes.make_no_folders, processes.hand_on_no_right):
+                with commands.started(["echo", "began"], before) as one:
+                    out, told = one.communicate()
+                    said += [one.returncode, out.decode(), told.decode().partition(":")[0]]
+            for status, printed, why in (program.run(room, ["groups"]),
+                                         program.on_text(room, "would", b"")):
+                said += [status, printed.decode(), why.partition(":")[0]]
             try:
-                socket.socket(socket.AF_UNIX)
-                return [["made"]]
-            except PermissionError:
-                return [["none"]]
-        self.assertEqual(as_user.as_user(pwd.getpwnam("nobody"), look), [["none"]])
+                said += as_user.as_user(pwd.getpwnam("nobody"), lambda: [["began"]])
+            except Stop as fault:
+                said.append(str(fault).partition(":")[0])
+            return said
+
+        def refused() -> list[object]:
+            processes._refuse(processes._refusing(PRCTL))
+            return began()
+        no_filter = [3, "", "no filter of calls"]
+        fewer = [3, "", "no fewer rights"]
+        rest = [*no_filter * 2, "no filter of calls"]
+        self.assertEqual(waiting.answer(20, refused, "x"), [*no_filter, *fewer, *rest])
+        with mock.patch.object(processes, "_IS_THAT_ONE", False):
+            self.assertEqual(began(), [*no_filter, 0, "began\n", "", *rest])
 
 
 def asks(folder: str, says: int, user: str, until: int = -1) -> None:

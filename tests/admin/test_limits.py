@@ -19,6 +19,7 @@ sys.path.insert(0, os.path.join(os.path.dirname(__file__), "..", "..", "admin"))
 from rooms_admin.host import root  # noqa: E402
 from rooms_admin.room import fullness, limit, needs, server, settings, size  # noqa: E402
 from rooms_admin.passwords import passwords  # noqa: E402
+from rooms_admin.site import connections  # noqa: E402
 from rooms_admin.backup import night, texts  # noqa: E402
 from rooms_admin.directory import groups  # noqa: E402
 from rooms_admin.check import watched  # noqa: E402
@@ -225,6 +226,19 @@ class Guests(Folder):
                 patch.object(watched, "Directory", lambda _: self.asked()):
             (level, said), = watched.see_guests()
         self.assertEqual((level, said[:20]), (2, "two passwords: eve o"))
+
+
+class Connections(unittest.TestCase):
+    def test_those_of_one_address_fit_into_a_quarter_of_the_memory(self) -> None:
+        with patch.object(connections, "of_process", return_value=768), \
+                patch.object(connections, "_processes", return_value=4):
+            for gigabytes, most in ((1, 170), (2, 341), (4, 682), (16, 1536)):
+                pages = {"SC_PAGE_SIZE": 4096, "SC_PHYS_PAGES": gigabytes << 18}
+                with patch.object(os, "sysconf", pages.__getitem__):
+                    self.assertEqual(connections.most("", settings.Front()), most)
+                    self.assertEqual(connections.most("/image", settings.Front()), 1536)
+                    own = settings.Front(connections="2000")
+                    self.assertEqual(connections.most("", own), 2000)
 
 
 if __name__ == "__main__":

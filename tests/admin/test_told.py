@@ -1,5 +1,6 @@
 """Parts that need no room: what is told and to whom, passwords, and what is left of a verb that is
 killed."""
+import argparse
 import contextlib
 import io
 import os
@@ -128,6 +129,16 @@ class Told(unittest.TestCase):
                 verb_tell.run(given)
             self.assertEqual([verb_tell.run(given) for _ in range(2)], [0, 0])
             self.assertEqual(len(sent), 2)
+
+    def test_each_unit_that_asks_for_it(self) -> None:
+        """Also sockets, such as that of a room's port, which another program may have."""
+        folder = pathlib.Path(__file__).parents[2] / "deploy/systemd"
+        units = [one.name.replace("@.", "@office.") for one in folder.iterdir()
+                 if "OnFailure=rooms-tell@" in one.read_text(encoding="utf-8")]
+        self.assertIn("rooms-port@office.socket", units)
+        with unittest.mock.patch.object(verb_tell, "mail_of", return_value=""):
+            for unit in units:
+                self.assertEqual(verb_tell.run(argparse.Namespace(unit=unit)), 0, unit)
 
     def test_each_warning_has_a_name_of_its_own(self) -> None:
         """Systemd starts nothing for a second time while it is at work, as a slow mail is."""

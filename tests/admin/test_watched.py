@@ -8,6 +8,8 @@ import sys
 import tempfile
 import threading
 import time
+import types
+import typing
 import unittest
 import unittest.mock
 from collections.abc import Iterator
@@ -163,6 +165,17 @@ class Watched(unittest.TestCase):
         self.assertEqual(watched.of_place(path, machines) == found, is_away)
         self.assertEqual(asked[:1], [] if is_away else [b"GET /invoices/can/ HTTP/1.1"])
         return found
+
+    def test_a_watch_that_does_not_stay(self) -> None:
+        room = typing.cast(typing.Any, types.SimpleNamespace(name="office"))
+        for restarts, since, stays in ((0, 1, True), (9, 1, True), (10, 1, False), (10, 90, True)):
+            began = int((time.monotonic() - since) * 1e6)
+            said = f"NRestarts={restarts}\nActiveEnterTimestampMonotonic={began}"
+            with unittest.mock.patch.object(server, "systemctl", return_value=(0, said)):
+                self.assertEqual(health.units(room), "" if stays else (
+                    "rooms-full@office doesn't stay: systemctl status rooms-full@office"))
+        with unittest.mock.patch.object(server, "systemctl", return_value=(1, "")):
+            self.assertEqual(health.units(room), "")
 
     def test_a_room_is_asked_where_it_listens(self) -> None:
         """At its socket. The server of a unit of somebody's own may have a port in its place; one

@@ -4,12 +4,12 @@
                                             is typed; prints how many bytes were sent
     limits.py names PORT SECONDS            the same by HTTP/2, where a field that was sent once is
                                             named by one byte; prints how many requests there were
-    limits.py streams PORT NUMBER           so many connections by HTTP/2 with 100 requests each,
-                                            of 60 kB and without a right password, whose answers
-                                            nobody takes, until standard input ends; prints how many
-                                            were answered
     limits.py handshakes PORT NUMBER        so many beginnings of TLS, each with a record behind it
                                             of a kind that there isn't
+    limits.py streams PORT NUMBER COOKIES   so many connections by HTTP/2 with 100 requests each,
+                                            with so many cookies of 4 kB, the beginning of a body
+                                            and no right password, whose answers nobody takes, until
+                                            standard input ends; prints a line when nginx has them
     limits.py crowd PORT WHO NUMBER PROCESS ..
                                             so many requests with typed passwords, that these of
                                             nginx's see all at once, and five of WHO from other
@@ -104,6 +104,7 @@ def names(port, seconds):
             for turn in range(450):
                 if time.monotonic() > ends:
                     break
+                one.settimeout(10)
                 one.sendall(http2.frame(http2.HEADERS, http2.END | http2.WHOLE, 2 * turn + 1,
                                         later if turn else first))
                 asked += 1
@@ -115,27 +116,33 @@ def names(port, seconds):
     print(asked)
 
 
-def streams(port, count):
+def streams(port, count, cookies):
     context = ssl.create_default_context()
     context.check_hostname = False
     context.verify_mode = ssl.CERT_NONE
     context.set_alpn_protocols(["h2"])
     host, typed, field = b"rooms.example", b"Basic eA==", b"v" * 4000
-    # One byte of an answer may be sent, and its head.
+    # No byte of an answer may be sent but its head.
     sent = http2.PREFACE[:24] + http2.frame(http2.SETTINGS, 0, 0, struct.pack(
-        ">HI", http2.INITIAL_WINDOW, 1))
-    head = (b"\x82\x87\x84\x01" + number(len(host)) + host
+        ">HI", http2.INITIAL_WINDOW, 0))
+    head = (b"\x83\x87\x84\x01" + number(len(host)) + host
             + b"\x0f\x08" + number(len(typed)) + typed)
     for turn in range(100):
-        fields = b"\xbe" * 15 if turn else b"\x40\x01x" + number(len(field)) + field
-        sent += http2.frame(http2.HEADERS, http2.END | http2.WHOLE, 2 * turn + 1, head + fields)
-    held, met = [], 0
+        fields = b"" if turn else b"\x60" + number(len(field)) + field
+        fields += b"\xbe" * (int(cookies) - (turn == 0))
+        sent += http2.frame(http2.HEADERS, http2.WHOLE, 2 * turn + 1, head + fields)
+        if turn < 8:
+            sent += http2.frame(http2.DATA, 0, 2 * turn + 1, bytes(16000)) * 4
+    held = []
     for _ in range(int(count)):
         held.append(context.wrap_socket(connected(port), server_hostname="rooms.example"))
         held[-1].sendall(sent)
     for one in held:
-        met += answered_heads(one)
-    print(met, flush=True)
+        one.settimeout(1)
+        with contextlib.suppress(OSError):
+            while one.recv(1 << 16):
+                pass
+    print("held", flush=True)
     sys.stdin.read()
 
 
@@ -150,19 +157,6 @@ def handshakes(port, count):
         with connected(port) as one:
             one.sendall(made_up)
             drain(one)
-
-
-def answered_heads(one):
-    """Until nothing has come for a second."""
-    got, heads, place = b"", 0, 0
-    one.settimeout(1)
-    with contextlib.suppress(OSError):
-        while part := one.recv(1 << 16):
-            got += part
-    while place < len(got):
-        heads += got[place + 3] == http2.HEADERS
-        place += 9 + int.from_bytes(got[place:place + 3], "big")
-    return heads
 
 
 def crowd(port, who, count, *processes):

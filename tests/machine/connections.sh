@@ -130,8 +130,10 @@ holds 'and was asked for them' [ "$(cat "$work/out")" -gt 1000 ]
 does 'how many one address may have' \
   'sed -n "s/.* ip saddr ct count over \([0-9]*\) } drop/\1/p" /var/lib/rooms-front/connections.nft'
 most=$(cat "$work/out")
-does 'half of what nginx holds' 'echo $(($(sed -n "s/.*worker_connections \([0-9]*\);/\1/p" \
-  /etc/nginx/nginx.conf) * $(nproc) / 2))'
+does 'half of what nginx holds, or one for each 6 MB' '
+  half=$(($(sed -n "s/.*worker_connections \([0-9]*\);/\1/p" /etc/nginx/nginx.conf) * $(nproc) / 2))
+  memory=$(awk "/^MemTotal/ { print int(\$2 / 6144) }" /proc/meminfo)
+  echo $((half < memory ? half : memory))'
 prints 'is that' "$most"
 cat >office.py <<'END'
 import contextlib

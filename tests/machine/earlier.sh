@@ -158,6 +158,6 @@ printf '%s\n' 'write /var/tmp' 'ask /run/rooms/office/socket' 'ask /run/rooms-ni
 same 'what it can do' "$work/out" wanted
 probed 'in the place of who opens nights' rooms-nights
 printf '%s\n' 'read /etc/rooms/office.conf' 'list /var/backups/rooms' \
-  'write /var/cache/rooms-nights' 'write /var/tmp' 'make a folder' >wanted
+  'write /var/cache/rooms-nights' >wanted
 same 'what it can do' "$work/out" wanted
 stop_machine

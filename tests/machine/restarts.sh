@@ -20,6 +20,43 @@ does 'a large document comes in, and goes out' 'mkdir tree &&
   head -c 3000000 /dev/urandom >tree/scan && rooms-admin import --as alice tree /load &&
   rooms-admin export --no-lists --as alice /load out && cmp tree/scan out/scan'
 
+# Where the machine has no memory left, an account's processes go before what serves rooms, and what
+# reads documents before those.
+does 'who goes when' 'for unit in nginx rooms@office rooms-door@office rooms-wait@office \
+  rooms-passwords rooms-extract@0 rooms-scan@0 rooms-picture@0 rooms-would@0; do
+  echo $unit $(systemctl show $unit -p OOMScoreAdjust --value); done'
+prints 'who serves rooms goes last' 'nginx -500' 'rooms@office -500' 'rooms-door@office -500' \
+  'rooms-wait@office -500' 'rooms-passwords -500' 'rooms-extract@0 1000' 'rooms-scan@0 1000' \
+  'rooms-picture@0 1000' 'rooms-would@0 1000'
+inside 'echo -500 >/proc/self/oom_score_adj'
+if [ "$status" = 0 ]; then
+  does 'with all of its processes' 'systemctl restart nginx && systemctl start rooms-wait@office
+    for unit in nginx rooms@office rooms-door@office rooms-wait@office; do
+      main=$(systemctl show $unit -p MainPID --value)
+      for one in $main $(cat /proc/$main/task/*/children); do
+        echo $unit $(cat /proc/$one/oom_score_adj)
+      done | sort -u; done'
+  prints 'which have that from it' 'nginx -500' 'rooms@office -500' 'rooms-door@office -500' \
+    'rooms-wait@office -500'
+  until_inside 'nginx asks again' "[ \"\$($web/can/?)\" = 200 ]"
+else
+  skip 'processes that go last' 'root may not have them do so here'
+fi
+
+# A watch over the size that ends at once is started again and again, and hasn't failed: the night
+# tells it.
+does 'a watch that ends at once' 'unit=/etc/systemd/system/rooms-full@.service.d; mkdir -p $unit
+  printf "%s\n" "[Service]" ExecStart= ExecStart=/bin/false RestartSec=100ms >$unit/ends.conf
+  systemctl daemon-reload; systemctl restart rooms-full@office || :
+  sleep 5'
+inside 'systemctl start rooms-nightly@office'
+holds 'has the nightly run fail, which is mailed' [ "$status" != 0 ]
+says_watch='journalctl --sync; journalctl -u rooms-nightly@office --no-pager -o cat'
+inside "$says_watch | grep -c \"rooms-full@office doesn't stay: systemctl status\""
+prints 'by that name' 1
+does 'it stays again' 'rm -r /etc/systemd/system/rooms-full@.service.d; systemctl daemon-reload
+  systemctl restart rooms-full@office; systemctl reset-failed; systemctl start rooms-nightly@office'
+
 # What has no answer is lost; the command's own words are kept.
 asked_while() { # NAME COMMAND [TARGET]: what came of it is in the file numbers
   inside "{ sleep 1; { $2; } >said 2>&1 || echo failed >>said; sleep 1; } |

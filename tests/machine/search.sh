@@ -160,8 +160,8 @@ probed() { # NAME UNIT INSTANCE WHAT-IT-CAN-DO ..
 probed 'who keeps texts' rooms-texts '' 'list /var/cache/rooms-texts/office' 'write /var/tmp'
 probed 'who has a night read' rooms-texts-night@ office \
   'list /var/cache/rooms-texts/office' 'list /var/cache/rooms-texts-copies/office' \
-  'write /var/tmp' 'write /var/cache/rooms-texts/office' 'make a folder' \
-  'ask /run/rooms-extract/socket' 'ask /run/rooms-scan/socket'
+  'write /var/cache/rooms-texts/office' 'ask /run/rooms-extract/socket' \
+  'ask /run/rooms-scan/socket'
 
 # What goes with the setting, and with the room.
 does 'as before' 'systemctl daemon-reload; systemctl reset-failed

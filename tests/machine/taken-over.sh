@@ -62,7 +62,7 @@ probed 'in the place of a door' rooms-door@office \
   'ask /run/rooms/invoices/socket' 'ask /run/rooms-picture/socket' 'ask /run/rooms-would/socket'
 probed 'in the place of a watch' rooms-full@office \
   'read /etc/rooms/office.conf' 'read /etc/nginx/nginx.conf' 'list /var/lib/rooms' \
-  'list /var/log/nginx' 'write /run/rooms-full' 'write /var/tmp' 'make a folder' \
+  'list /var/log/nginx' 'write /run/rooms-full' 'write /var/tmp' \
   'ask /run/dbus/system_bus_socket'
 # It is the server itself: nobody listens in its place.
 probed 'in the place of a server' rooms@office \
@@ -91,7 +91,7 @@ probed 'in the place of what sends mail' rooms-tell@probe \
 # Apache's processes that answer: nginx believes what they say of a password or a session.
 becomes=rooms-passwords
 by_apache=('read /etc/rooms/office.conf' 'read /etc/nginx/nginx.conf' 'list /var/log/nginx'
-  'write /var/tmp' 'make a folder' 'ask 127.0.0.1:80')
+  'write /var/tmp' 'ask 127.0.0.1:80')
 probed 'in the place of what asks a directory' rooms-passwords "${by_apache[@]}"
 bounded 'what asks a directory' rooms-passwords 256 512
 becomes= bounded 'what opens nights' rooms-nights 96 1536

@@ -180,6 +180,24 @@ holds 'it is the same authority' certified rooms.example brought/etc/ssl/rooms.p
 rm -r brought/root brought/etc/ssl/private/rooms.key
 brings 'a key that is given up' 0 "authority /root/authority/authority.pem, $below rooms.example"
 
+# An authority that ends certifies nothing for longer, and says so in its last year.
+ends_in() { # DAYS
+  openssl x509 -in own/root/authority/authority.pem -signkey own/root/authority/authority.key \
+    -days "$1" -out brought/root/authority/authority.pem 2>/dev/null
+}
+rm -r brought
+mkdir -p brought/root
+cp -r own/root/authority brought/root/
+ends_in 100
+brings 'an authority that ends in 100 days' 0 'until '
+told 'is told of' 0 'authority.pem ends on '
+holds 'and what it certifies lasts as long' \
+  openssl x509 -in brought/etc/ssl/rooms.pem -noout -checkend $((98 * 86400))
+holds 'and not longer' eval \
+  '! openssl x509 -in brought/etc/ssl/rooms.pem -noout -checkend $((100 * 86400)) >/dev/null'
+ends_in -1
+brings 'one that has ended' 2 'expired: /root/authority/authority.pem, on '
+
 start_room F 1000 || return
 start_front 'behind nginx with TLS' tls || return
 

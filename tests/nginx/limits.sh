@@ -84,7 +84,7 @@ done
 # No other body than a document's goes to the door as it comes, where so few have a place.
 head -c 1200000 /dev/zero >larger
 ask 'a list that is too large' 413 - alice:a /door/dacl/plan -X PUT --data-binary @larger \
-  -H 'Transfer-Encoding: chunked' -H 'If-Match: *'
+  -H 'If-Match: *'
 holds 'is refused before the door' eval '! grep -q why "$work/body"'
 ask 'a document' 413 - alice:a /door/doc/plan -X PUT --data-binary @larger \
   -H 'Transfer-Encoding: chunked' -H 'If-Match: *'
@@ -183,18 +183,22 @@ if certify_front && start_front 'limits of HTTP/2' tls; then
     for worker in $(cat "/proc/$proxy/task/$proxy/children"); do cat "/proc/$worker/status"; done |
       awk '/^VmRSS/ { sum += $2 } END { print sum }'
   }
-  before=$(memory)
-  rm -f met
-  mkfifo until
-  limits streams "$secure" 20 <until >met &
-  holding=$!
-  exec 9>until
-  began=$SECONDS
-  until [ -s met ] || [ $((SECONDS - began)) -ge "$patience" ]; do sleep 0.1; done
-  grown=$(($(memory) - before))
-  holds "$(cat met) answers that nobody takes have $grown kB of memory" \
-    [ "$(cat met)" -ge 100 -a "$grown" -lt 40000 ]
-  let_go
+  for cookies in 7 15; do
+    stop_proxy
+    start_front 'limits of HTTP/2' tls || return
+    before=$(memory)
+    rm -f met
+    mkfifo until
+    limits streams "$secure" 20 "$cookies" <until >met &
+    holding=$!
+    exec 9>until
+    began=$SECONDS
+    until [ -s met ] || [ $((SECONDS - began)) -ge "$patience" ]; do sleep 0.1; done
+    grown=$((($(memory) - before) / 20))
+    holds "a connection with answers that nobody takes, with $cookies cookies each: $grown kB" \
+      [ "$grown" -gt 50 -a "$grown" -lt 1536 ]
+    let_go
+  done
   stop_proxy
   # Nor has anybody to say there how long a document is.
   sets office LARGEST 20

@@ -43,14 +43,15 @@ class Apart(unittest.TestCase):
             self.running.kill()
             self.running.communicate()
 
-    def start(self) -> None:
+    def start(self, **more: str) -> None:
         """With the socket as file 3, as systemd hands it over. One that is ended before it listens
         has taken nobody."""
         self.running = subprocess.Popen(
             ["/bin/sh", "-c", 'exec 3<&"$0" && exec "$@"', str(self.socket.fileno()),
              sys.executable, "-IB", os.path.join(os.path.dirname(door_package), "__main__.py"),
              "--room", self.at("room"), "--kept", self.folder, "--drive=yes"],
-            pass_fds=[self.socket.fileno()], env={"LISTEN_FDS": "1"}, stderr=subprocess.PIPE)
+            pass_fds=[self.socket.fileno()], stderr=subprocess.PIPE,
+            env={"LISTEN_FDS": "1", **more})
         assert self.running.stderr
         self.assertTrue(self.running.stderr.readline().startswith(b"listening "))
 

@@ -268,6 +268,7 @@ class Night:
         if self.starts:
             self.failed(health.patiently(self.room, health.answer))
         self.failed(health.patiently(self.room, health.size))
+        self.failed(health.patiently(self.room, health.units))
         text, over = self.beside.see_certificate(self.room)
         if over:
             self.failed(text)

@@ -33,6 +33,8 @@ def bring_back_machine(given: argparse.Namespace) -> int:
         raise Refused("not root")
     conf = settings.file_of(given.room)
     tar = machine_tar.read(machine_tar.find(conf, given.backup))
+    for lack in tar.left_out:
+        say(f"left out: {lack}")
     with ExitStack() as owned:
         task = restore_machine.Machine(tar, owned)
         task.lock()

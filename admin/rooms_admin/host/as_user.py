@@ -13,12 +13,33 @@ from collections.abc import Callable, Iterator
 from contextlib import closing, contextmanager, suppress
 
 from . import commands, processes, safe, tempdirs
+from ..cli.report import Stop
 
 Work = Callable[[], list[list[str]]]
 # Bytes: twice the largest document, and as much for the log.
 TRIAL = 4194304
 # Of what differs from a room's tables, as much is named.
 MOST_NAMED = 5
+
+
+def _become(user: pwd.struct_passwd) -> None:
+    if os.getuid() != user.pw_uid:
+        # What it begins has no terminal, where whoever else is that user could type by it.
+        os.setsid()
+        os.setgroups([])
+        os.setresgid(user.pw_gid, user.pw_gid, user.pw_gid)
+        os.setresuid(user.pw_uid, user.pw_uid, user.pw_uid)
+        processes.reach_nobody()
+        processes.make_no_folders()
+
+
+def _found(user: pwd.struct_passwd, work: Work) -> list[list[str]] | str:
+    """Or why there was no work."""
+    try:
+        _become(user)
+        return work()
+    except Stop as fault:
+        return str(fault)
 
 
 def as_user(user: pwd.struct_passwd, work: Work) -> list[list[str]]:
@@ -28,14 +49,7 @@ def as_user(user: pwd.struct_passwd, work: Work) -> list[list[str]]:
     child = os.fork()
     if child == 0:
         try:
-            if os.getuid() != user.pw_uid:
-                # What it begins has no terminal, where whoever else is that user could type by it.
-                os.setsid()
-                os.setgroups([])
-                os.setresgid(user.pw_gid, user.pw_gid, user.pw_gid)
-                os.setresuid(user.pw_uid, user.pw_uid, user.pw_uid)
-                processes.reach_nobody()
-            text = json.dumps(work()).encode()
+            text = json.dumps(_found(user, work)).encode()
             while text:
                 text = text[os.write(theirs, text):]
             os._exit(0)
@@ -53,7 +67,10 @@ def as_user(user: pwd.struct_passwd, work: Work) -> list[list[str]]:
     status = os.waitpid(child, 0)[1]
     if status != 0:
         return [["unknown", f"a process of {user.pw_name} ended, status {status}"]]
-    return [[str(word) for word in row] for row in json.loads(text)]
+    found = json.loads(text)
+    if isinstance(found, str):
+        raise Stop(found)
+    return [[str(word) for word in row] for row in found]
 
 
 def try_writing(folder: str) -> list[list[str]]:

@@ -121,6 +121,17 @@ def in_place(words: Sequence[str]) -> int:
     return subprocess.run(words, check=False).returncode
 
 
+def _or_ends(before: Callable[[], None]) -> Callable[[], None]:
+    """What a child does first. Without it none goes on: it ends as the program does at a fault."""
+    def begins() -> None:
+        try:
+            before()
+        except Stop as fault:
+            os.write(2, f"{fault}\n".encode())
+            os._exit(3)
+    return begins
+
+
 def started(words: Sequence[str | bytes], before: Callable[[], None], who: Who | None = None,
             stdin: int = PIPE, stdout: int = PIPE, pass_fds: tuple[int, ...] = (),
             cwd: str | None = None, umask: int = 0o077) -> Child:
@@ -131,4 +142,5 @@ def started(words: Sequence[str | bytes], before: Callable[[], None], who: Who |
     if who is not None:
         how = {"user": who.user, "group": who.group, "extra_groups": [], "start_new_session": True}
     return subprocess.Popen(words, stdin=stdin, stdout=stdout, stderr=subprocess.PIPE, umask=umask,
-                            preexec_fn=before, pass_fds=pass_fds, cwd=cwd, env=_ours(), **how)
+                            preexec_fn=_or_ends(before), pass_fds=pass_fds, cwd=cwd, env=_ours(),
+                            **how)

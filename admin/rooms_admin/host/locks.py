@@ -1,5 +1,5 @@
 """One verb at a time for each room. A lock lies where nobody but root gets to: flock asks for no
-right but that to open the file."""
+right but that to open the file, which others have not."""
 import fcntl
 import os
 import stat
@@ -53,7 +53,7 @@ def _in_turn(number: int, first: int, seconds: float) -> bool:
         time.sleep(0.02)
 
 
-def _opened(folder: str, *names: str) -> list[int]:
+def _opened(folder: str, others: int, *names: str) -> list[int]:
     try:
         os.makedirs(folder, 0o700, exist_ok=True)
         at = os.open(folder, os.O_RDONLY | os.O_DIRECTORY | os.O_NOFOLLOW | os.O_CLOEXEC)
@@ -61,7 +61,7 @@ def _opened(folder: str, *names: str) -> list[int]:
         raise Refused(f"no lock: {folder} can't be made: {fault.strerror}") from fault
     try:
         seen = os.fstat(at)
-        if seen.st_uid != os.geteuid() or stat.S_IMODE(seen.st_mode) & 0o077:
+        if seen.st_uid != os.geteuid() or stat.S_IMODE(seen.st_mode) & others:
             raise Refused(f"no lock: {folder} isn't closed to others: rm -r {folder}")
         return [os.open(name, os.O_RDWR | os.O_CREAT | os.O_NOFOLLOW | os.O_CLOEXEC, 0o600,
                         dir_fd=at) for name in names]
@@ -70,10 +70,11 @@ def _opened(folder: str, *names: str) -> list[int]:
 
 
 @contextmanager
-def lock(name: str, seconds: float, folder: str = FOLDER) -> Iterator[None]:
+def lock(name: str, seconds: float, folder: str = FOLDER, others: int = 0o077) -> Iterator[None]:
     """`name` is a unit such as rooms@office, or 'machine'. It ends with the process, whatever
-    happens to that; no child gets it, since Python closes what a child isn't given."""
-    number, first = _opened(folder, name, f"{name}.first")
+    happens to that; no child gets it, since Python closes what a child isn't given. `others` is
+    what of the folder isn't theirs."""
+    number, first = _opened(folder, others, name, f"{name}.first")
     try:
         try:
             if not _in_turn(number, first, seconds):

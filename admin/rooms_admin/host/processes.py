@@ -39,9 +39,11 @@ _WITHOUT_SOCKETS, _WITHOUT_FOLDERS = (_refusing(*calls, _RING) for calls in (_SO
 
 
 def _refuse(calls: "ctypes.Array[ctypes.c_char]") -> None:
-    if _IS_THAT_ONE:
-        _LIBC.prctl(_NO_MORE_RIGHTS, 1, 0, 0, 0)
-        _LIBC.prctl(_SET_FILTER, _BY_ROWS, calls)
+    """Where that fails, what comes behind it isn't to begin."""
+    if not (_IS_THAT_ONE and _LIBC.prctl(_NO_MORE_RIGHTS, 1, 0, 0, 0) == 0
+            and _LIBC.prctl(_SET_FILTER, _BY_ROWS, calls) == 0):
+        raise report.Stop("no filter of calls: this kernel takes none (CONFIG_SECCOMP_FILTER, "
+                          "amd64), and nothing reads what others have made without it")
 
 
 def end_with_parent() -> None:
@@ -51,7 +53,9 @@ def end_with_parent() -> None:
 
 def hand_on_no_right() -> None:
     """For a child that need not have what its parent's unit allows that one."""
-    _LIBC.prctl(_AMBIENT, _CLEAR_ALL, 0, 0, 0)
+    if _LIBC.prctl(_AMBIENT, _CLEAR_ALL, 0, 0, 0) != 0:
+        raise report.Stop("no fewer rights: this kernel lets no process give them up, and nothing "
+                          "reads what others have made with them")
 
 
 def reach_nobody() -> None:

@@ -10,6 +10,9 @@ from ..cli.report import Stop
 from .settings import Room
 from .size import NoRoom, Used
 
+# A unit that was started anew so often, and is there for no more than these seconds, doesn't stay.
+TRIES, STAYS = 10, 60.0
+
 
 def patiently(room: Room, look: Callable[[Room], str]) -> str:
     """What is asked of a server, or tried as its user, that user could hold up for ever."""
@@ -53,6 +56,22 @@ def answer(room: Room, patience: float = 0) -> str:
     place = room.listens or f"port {room.port}"
     return (f"{room.unit} doesn't answer at {place} within {patience} s: {text}; "
             f"systemctl status {room.unit}")
+
+
+def _stays(unit: str) -> bool:
+    said = dict(line.split("=", 1) for line in server.systemctl(
+        "show", "-p", "NRestarts", "-p", "ActiveEnterTimestampMonotonic", unit)[1].splitlines())
+    began = int(said.get("ActiveEnterTimestampMonotonic") or 0) / 1e6
+    return int(said.get("NRestarts") or 0) < TRIES or time.monotonic() - began > STAYS
+
+
+def units(room: Room) -> str:
+    """Who looks how large the room is, and who asks a directory, are started again without end
+    where they end at once: they haven't failed then, so systemd of Debian 12 has nobody told."""
+    for unit in (f"rooms-full@{room.name}", "rooms-passwords"):
+        if not _stays(unit):
+            return f"{unit} doesn't stay: systemctl status {unit}"
+    return ""
 
 
 def size(room: Room) -> str:

@@ -71,12 +71,13 @@ def limits(megabytes: int) -> Callable[[], None]:
 
 
 def alone(megabytes: int) -> Callable[[], None]:
-    """The same for one that asks nobody."""
+    """The same for one that asks nobody, and makes files alone."""
     less = limits(megabytes)
 
     def before() -> None:
         less()
         processes.reach_nobody()
+        processes.make_no_folders()
     return before
 
 

@@ -39,6 +39,9 @@ def stop_beside(name: str) -> None:
 
 
 def start(room: Room) -> None:
+    """However often: systemd counts starts that are asked for beside those of a server that ends by
+    itself, and would refuse the next one."""
+    systemctl("reset-failed", room.unit)
     if systemctl("start", room.unit)[0] != 0:
         raise Stop(f"{room.unit} doesn't start: systemctl status {room.unit}")
 

@@ -53,10 +53,11 @@ def run(given: argparse.Namespace) -> int:
                       "what the unit of a room needs: rooms-admin full --look")
     os.umask(0o022)
     os.makedirs(fullness.FOLDER, exist_ok=True)
-    # The unit has a user of its own, who doesn't get to where root's locks are.
-    within = locks.FOLDER if os.geteuid() == 0 else f"{fullness.FOLDER}/locks"
+    # The unit has a user of its own, who makes no folder and doesn't get to where root's locks are.
+    within = locks.FOLDER if os.geteuid() == 0 else fullness.FOLDER
+    others = 0o077 if os.geteuid() == 0 else 0o022
     with ExitStack() as owned:
         for room in rooms:
-            owned.enter_context(locks.lock(f"full.{room.flag}", 2, within))
+            owned.enter_context(locks.lock(f"full.{room.flag}", 2, within, others))
         status = fullness.watch(rooms)
     return status

@@ -1,6 +1,8 @@
 """An authority of the office's own, and what it certifies: the site, and other machines."""
 import os
 import shlex
+import ssl
+import time
 
 from ..host import commands, safe
 from ..room import names
@@ -26,6 +28,10 @@ def _openssl(words: list[str]) -> str:
         last = done.said.split("\n")[-1]
         raise Stop(f"openssl {words[0]} failed: {last}")
     return done.out
+
+
+def _ends(file: str) -> str:
+    return _openssl(["x509", "-in", file, "-noout", "-enddate"]).partition("=")[2]
 
 
 def _put(source: str, target: str, mode: int) -> None:
@@ -96,8 +102,21 @@ class Authority:
         of = ", for these names and those below them: " + ", ".join(names_below)
         self._tell(f"authority {self.pem}{of if names_below else ''}")
 
+    def _days(self, most: int) -> int:
+        """No browser takes what an authority certifies for longer than that lasts."""
+        ends = _ends(self.at(self.pem))
+        left = int(ssl.cert_time_to_seconds(ends) - time.time()) // 86400
+        if left < 1:
+            raise Refused(f"expired: {self.pem}, on {ends}: move {self.folder} away, and begin "
+                          "anew")
+        if left < 365:
+            say(f"{self.pem} ends on {ends}, and all that it certifies: move {self.folder} away "
+                "in time, and begin anew")
+        return min(left, most)
+
     def certify(self, hosts: list[str], use: str, days: int, key: str, pem: str) -> None:
         """A certificate by this authority, which has to hold for each host before it is used."""
+        days = self._days(days)
         fresh, asked, rules = (f"{self.private}/{one}" for one in ("new.pem", "csr", "rules"))
         if not os.path.exists(ROOT + key):
             made = f"{self.private}/new.key"
@@ -123,8 +142,8 @@ class Authority:
                 raise Refused(f"not for {named}: {self.pem} can't certify it ({stop}); nothing is "
                               "changed") from stop
         self._put(fresh, pem, 0o644)
-        ends = _openssl(["x509", "-in", fresh, "-noout", "-enddate"]).partition("=")[2]
-        self._tell(f"certificate {pem} for {', '.join(hosts)}, until {ends}; its key is {key}")
+        self._tell(f"certificate {pem} for {', '.join(hosts)}, until {_ends(fresh)}; its key is "
+                   f"{key}")
 
 
 def _look_at_issuer() -> None:

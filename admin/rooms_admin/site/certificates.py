@@ -1,11 +1,18 @@
 """The certificate of the site, as its settings name it, and whether one ends soon."""
 import os
+import re
 
+from ..cli.report import Stop
+from ..host import commands
 from ..room import settings
 from ..host.commands import printed
 from ..host.root import ROOT
 from ..room.settings import Room
 from . import served
+
+_BLOCK = re.compile(rb"-----BEGIN CERTIFICATE-----.*?-----END CERTIFICATE-----", re.DOTALL)
+# How many of those that certify it are looked at.
+_MOST = 8
 
 
 def certificates() -> list[str]:
@@ -32,7 +39,26 @@ def see_certificate(file: str) -> tuple[int, str]:
         return 2, f"the certificate {file} has expired, on {ends}: docs/operating.md, Renewal"
     if not printed([*asks, "-checkend", str(days * 86400)]).startswith("Certificate will not"):
         return 1, f"the certificate {file} ends on {ends}: docs/operating.md, Renewal"
+    if above := _above_ends(file, days * 86400):
+        return 1, (f"the certificate {file} ends on {above}, with one that certifies it: "
+                   "docs/operating.md, Renewal")
     return 0, f"the certificate ends on {ends}"
+
+
+def _above_ends(file: str, seconds: int) -> str:
+    """When the first of those that stand behind it ends, if not all last so many seconds. A browser
+    may know another one in its place."""
+    with open(ROOT + file, "rb") as source:
+        above = _BLOCK.findall(source.read(1 << 20))[1:_MOST]
+    for one in above:
+        try:
+            done = commands.run(["openssl", "x509", "-noout", "-enddate", "-checkend",
+                                 str(seconds)], one)
+        except (OSError, Stop):
+            continue
+        if done.status and done.out.startswith("notAfter="):
+            return done.out.partition("\n")[0].partition("=")[2]
+    return ""
 
 
 def to_be_told(room: Room) -> tuple[str, bool]:

@@ -9,6 +9,8 @@ from . import ports, template
 
 FILE = "/var/lib/rooms-front/connections.nft"
 UNIT = "rooms-connections.service"
+# Bytes that a connection may have of nginx's memory (deploy/nginx/site.conf.in).
+EACH = 3 << 19
 
 
 def _of_nginx(root: str, name: str) -> str:
@@ -31,11 +33,18 @@ def _processes(root: str) -> int:
     return int(number) if number.isdigit() else 1
 
 
+def _of_memory(root: str) -> int:
+    """Those of one address have a quarter of the memory at most. That of an image isn't known."""
+    if root:
+        return 1 << 16
+    return max(10, os.sysconf("SC_PAGE_SIZE") * os.sysconf("SC_PHYS_PAGES") // (4 * EACH))
+
+
 def most(root: str, front: settings.Front) -> int:
-    """Half of what nginx holds unless the settings say it; 0 is no limit."""
+    """Half of what nginx holds, unless that is too much or the settings say it; 0 is no limit."""
     if front.connections == "none":
         return 0
-    return int(front.connections or of_process(root) * _processes(root) // 2)
+    return int(front.connections or min(_of_memory(root), of_process(root) * _processes(root) // 2))
 
 
 def _rests(made: Changes) -> bool:

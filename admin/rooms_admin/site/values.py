@@ -80,7 +80,8 @@ KEY=
 UNENCRYPTED=
 
 # How many connections to nginx one address, or network of IPv6, may have at once. If this is empty,
-# it is half of what nginx holds; 'none' sets no limit, as behind a proxy through which all come.
+# it is half of what nginx holds, and one for each 6 MB of memory at most; 'none' sets no limit, as
+# behind a proxy through which all come.
 CONNECTIONS=
 """
     made.file(template.SETTINGS, text.encode())

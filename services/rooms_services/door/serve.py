@@ -343,6 +343,8 @@ class Handler(http.server.BaseHTTPRequestHandler):
         except OSError:
             # Whoever asked is gone, or takes nothing: all that was asked is done.
             self.close_connection = True
+        finally:
+            self.door.room.held.give()
 
     def _send(self, answer: Answer) -> None:
         has_body = answer.status not in (204, 304)

@@ -18,7 +18,7 @@ from rooms_admin.room import waits
 
 from .answers import JSON, Answer, Stop
 from .paths import Names, escaped
-from .turns import PATIENCE, InTurn
+from .turns import PATIENCE, Held, InTurn
 
 # How many questions one connection has at most. All of a row are sent before an answer is read, so
 # they have to fit into a socket's buffer: else the room could wait with an answer for a door that
@@ -396,6 +396,7 @@ class Room:
         self.most = most
         self.denials = Denials()
         self.changes = Changes()
+        self.held = Held()
         self.note = note
         self._turn = InTurn()
 

@@ -1,5 +1,7 @@
 """Who is answered when: the room by one row of questions at a time, and each user by few requests
 at once, so that nobody who asks a hundred times keeps the others waiting."""
+import gc
+import os
 import threading
 from collections import Counter, defaultdict, deque
 from collections.abc import Iterator
@@ -15,6 +17,13 @@ RUNNING, RUNNING_ALL, WAITING = 2, 16, 14
 # of all that may take long, so that the rest has turns.
 LONG, LONG_ALL, LONG_TOGETHER = 1, 4, 12
 PATIENCE = waits.ANSWER
+# Bytes that those who go through folders hold together. Only tests set another number.
+HELD = int(os.environ.get("ROOMS_DOOR_HELD", 384 << 20))
+
+
+def busy() -> Stop:
+    return Stop(503, "busy", "too much is asked of the door; nothing was done",
+                fields={"Retry-After": "10"})
 
 
 class InTurn:
@@ -82,8 +91,7 @@ class Users:
             self._all[user] += 1
             try:
                 if not self._changed.wait_for(lambda: self._may_run(user, kind), PATIENCE):
-                    raise Stop(503, "busy", "too much is asked of the door; nothing was done",
-                               fields={"Retry-After": "10"})
+                    raise busy()
             except BaseException:
                 self._less(self._all, user)
                 raise
@@ -95,4 +103,43 @@ class Users:
             with self._changed:
                 for counter in (self._running, self._all, self._long[kind]):
                     self._less(counter, user)
+                self._changed.notify_all()
+
+
+class Held:
+    """What requests hold of the memory, each of which has a thread of its own."""
+
+    def __init__(self, most: int = HELD) -> None:
+        self._most = most
+        self._changed = threading.Condition()
+        self._of: Counter[int] = Counter()
+        # One of them goes on however much there is, so that not all of them wait.
+        self._beyond: int | None = None
+
+    def _may(self, mine: int, size: int) -> bool:
+        if self._of.total() + size <= self._most:
+            return True
+        if self._beyond is None:
+            self._beyond = mine
+        return self._beyond == mine
+
+    def take(self, size: int, seconds: float) -> None:
+        """Waits for so many bytes more. Nobody does who keeps others from the room meanwhile."""
+        mine = threading.get_ident()
+        with self._changed:
+            if not self._changed.wait_for(lambda: self._may(mine, size), seconds):
+                raise busy()
+            self._of[mine] += size
+
+    def give(self) -> None:
+        """All that this thread's request has: it is answered."""
+        mine = threading.get_ident()
+        with self._changed:
+            had = self._of[mine]
+        if had > self._most // 100:
+            # (the steps of a walk name it, and it them)
+            gc.collect()
+        with self._changed:
+            if self._of.pop(mine, 0):
+                self._beyond = None if self._beyond == mine else self._beyond
                 self._changed.notify_all()

@@ -17,6 +17,11 @@ MOST_NAMED = 8_388_608
 SECONDS = 45.0
 # How many bytes the paths in one answer have, which may be many times those of their names.
 MOST_TOLD = 33_554_432
+# Bytes of memory that an object takes, and each byte of its name, of which a letter of another one
+# makes Python keep four.
+EACH, LETTER = 450, 5
+# What stands in a listing for each object.
+_OBJECT = b'{"kind":'
 # How many folders' addresses are remembered.
 REMEMBERED = 256
 
@@ -69,6 +74,7 @@ class Walk:
         self.user = user
         self.seen = 0
         self.named = 0
+        self._held = 0
         self.asked: deque[tuple[Step, Node]] = deque()
         self.until = time.monotonic() + SECONDS
         # Addresses of the folders that were asked about last, and of the last object.
@@ -123,6 +129,15 @@ class Walk:
     def is_too_much(self) -> bool:
         return self.seen > MOST or self.named > MOST_NAMED
 
+    def _hold(self, whole: bytearray) -> None:
+        """What it has by now, and what becomes of these answers. It waits here where all have too
+        much together."""
+        more = whole.count(_OBJECT)
+        size = EACH * (self.seen + more) + LETTER * (self.named + (len(whole) if more else 0))
+        if size > self._held:
+            self.room.held.take(size - self._held, max(0.0, self.until - time.monotonic()))
+            self._held = size
+
     def run(self, goes_on: Callable[[], bool] = lambda: True) -> None:
         """Until nothing is left to be asked, or it needn't go on."""
         under_way: Row | None = None
@@ -132,6 +147,8 @@ class Walk:
         try:
             while (row or under_way) and goes_on():
                 whole = under_way.answered() if under_way else bytearray()
+                # (no row is under way, for which others would wait)
+                self._hold(whole)
                 before, its_before = under_way, its
                 under_way, its = Row(self.room, row) if row else None, its_next
                 row, its_next = [], []
