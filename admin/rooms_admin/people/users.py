@@ -152,6 +152,9 @@ def change(place: str, room: Room, asked: Words) -> int:
         _need_user(place, room, asked.name, change.before)
         _need_left(asked, change)
         _show(change)
+        for group in asked.leaves:
+            if (group, asked.name) not in change.before:
+                say(f"{asked.name} isn't in {group}")
         if not asked.is_dry:
             _make(room, change, newest_one)
     return 0
@@ -164,8 +167,6 @@ def _need_left(asked: Words, change: joining.Change) -> None:
     for group in asked.leaves:
         if group not in there and not (change.is_none and asked.joins):
             raise Refused(f"no group: nobody is in {group}{alike.meant(group, there)}")
-        if (group, asked.name) not in change.before:
-            say(f"{asked.name} isn't in {group}")
 
 
 def _need_user(place: str, room: Room, name: str, before: set[Pair]) -> None:
