@@ -127,6 +127,7 @@ if has htpasswd; then
   echo secret >typed
   typed=typed room_verb user add zoe --groups clerks
   ended_well 'somebody joins'
+  holds 'into which group is said' grep -qx -- '+ clerks,zoe' "$work/out"
   holds 'who can be chosen at once' grep -q '"eve","zoe"\]' "$web/people.json"
   room_verb user remove zoe
   ended_well 'somebody leaves'

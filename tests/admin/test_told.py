@@ -365,11 +365,18 @@ class Words(unittest.TestCase):
         """As they are typed."""
         return verb_user.read_words(words.read("user", verb_user, text.split()))
 
+    def test_groups_add_up(self) -> None:
+        self.assertEqual(self.typed("add bob --groups a --groups b,c").joins, ["a", "b", "c"])
+
+    def test_of_two_values_none_is_taken(self) -> None:
+        for text in ("list --room a --room b", "--room a list -r b", "add --file f --file=g"):
+            with self.assertRaisesRegex(Refused, "^bad arguments: --(room|file) stands twice"):
+                self.typed(text)
+
     def test_options_stand_anywhere(self) -> None:
         for given in ("add newbie --groups sales", "add --groups sales newbie",
                       "-r office add --groups sales newbie",
-                      "add newbie --groups sales --room office",
-                      "--room hr add newbie -r office --groups sales"):
+                      "add newbie --groups sales --room office"):
             self.assertEqual(self.typed(given),
                              users.Words("add", "newbie", "office", joins=["sales"]), given)
         self.assertEqual(self.typed("add x --groups a,b").joins, ["a", "b"])
