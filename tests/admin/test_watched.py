@@ -17,10 +17,11 @@ from collections.abc import Iterator
 sys.path.insert(0, os.path.join(os.path.dirname(__file__), "..", "..", "admin"))
 
 from rooms_admin.backup import dates, for_search  # noqa: E402
-from rooms_admin.host import locks, mail, root  # noqa: E402
+from rooms_admin.cli.report import Refused  # noqa: E402
+from rooms_admin.host import changes, locks, mail, root  # noqa: E402
 from rooms_admin.room import health, server, settings  # noqa: E402
 from rooms_admin.check import finding, front, verb_tell, watched  # noqa: E402
-from rooms_admin.site import served  # noqa: E402
+from rooms_admin.site import certificates, served, setting_up  # noqa: E402
 
 
 class Answers(socketserver.StreamRequestHandler):
@@ -72,6 +73,19 @@ class Watched(unittest.TestCase):
         def fails() -> list[finding.Finding]:
             raise OSError("no")
         self.assertEqual(watched.within(60, fails, "/mnt"), [(2, "/mnt can't be looked at")])
+
+    def test_a_certificate_of_a_clock_that_was_ahead(self) -> None:
+        with tempfile.TemporaryDirectory() as home, \
+                unittest.mock.patch.object(certificates, "ROOT", home):
+            certify(f"{home}/rooms.pem")
+            pair = f"{home}/rooms.pem", f"{home}/rooms.pem.key"
+            self.assertEqual(certificates.begins_later(pair[0]), "")
+            with unittest.mock.patch.object(time, "time", return_value=time.time() - 7200):
+                level, said = certificates.see_certificate("/rooms.pem")
+                self.assertEqual(level, 2)
+                self.assertIn("the certificate /rooms.pem doesn't count before ", said)
+                with self.assertRaisesRegex(Refused, "too early: .*: is the clock right"):
+                    setting_up.look_at_pair(changes.Changes(home, False), *pair)
 
     def test_a_certificate_that_nginx_has_not_read(self) -> None:
         with tempfile.TemporaryDirectory() as home, \
