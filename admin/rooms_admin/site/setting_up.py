@@ -158,7 +158,8 @@ def look_at_pair(made: Changes, certificate: str, key: str) -> tuple[str, str]:
     if not _pem(certificate, "x509", "-noout", "-checkend", "0"):
         raise Refused(f"expired: {certificate}")
     if begins := certificates.begins_later(certificate):
-        raise Refused(f"too early: {certificate} doesn't count before {begins}: is the clock right?")
+        raise Refused(f"too early: {certificate} doesn't count before {begins}: is the clock "
+                      "right?")
     apply.look_at_link(made.root)
     _try_pair(certificate, key)
     if os.stat(key).st_mode & 0o004:
