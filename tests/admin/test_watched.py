@@ -109,6 +109,34 @@ class Watched(unittest.TestCase):
             with unittest.mock.patch.object(served, "FRONT", "127.0.0.1:1"):
                 self.assertEqual(served.see_renewal("/rooms.pem"), "")
 
+    def test_a_room_for_the_front_end_of_another_machine(self) -> None:
+        with tempfile.TemporaryDirectory() as home, \
+                unittest.mock.patch.object(root, "ROOT", home):
+            os.makedirs(f"{home}/etc/rooms/machines")
+            os.makedirs(f"{home}/etc/nginx/sites-enabled")
+            room = typing.cast(typing.Any, types.SimpleNamespace(
+                name="wiki", unit="rooms@wiki", behind=True))
+            nothing = [(2, "nginx passes nothing on to its socket")]
+            self.assertEqual(front.see_behind(room), nothing)
+            with open(f"{home}/etc/nginx/sites-enabled/rooms", "w", encoding="ascii") as site:
+                site.write("upstream room_wiki { server unix:/run/rooms/wiki/socket; }\n")
+            machine = f"{home}/etc/rooms/machines/machine.pem"
+            certify(machine)
+            with by_tls(machine) as where, unittest.mock.patch.object(
+                    front, "BEHIND", int(where.partition(":")[2])):
+                self.assertEqual([level for level, _ in front.see_behind(room)], [0])
+                certify(machine)
+                (level, said), = front.see_behind(room)
+                self.assertEqual((level, said), (
+                    1, "nginx has another certificate than /etc/rooms/machines/machine.pem: "
+                    "systemctl reload nginx"))
+            with unittest.mock.patch.object(front, "BEHIND", 1):
+                (level, said), = front.see_behind(room)
+                self.assertEqual(level, 2)
+                self.assertRegex(said, "^nginx doesn't answer at 1: ")
+            room.behind = False
+            self.assertEqual(front.see_behind(room), [])
+
     def test_a_room_on_another_machine(self) -> None:
         """It is asked as nginx asks it: by our certificate, the authority of machines alone, and
         the machine's name."""
