@@ -9,6 +9,7 @@ import secrets
 import socket
 import threading
 import traceback
+from collections import Counter
 from collections.abc import Iterator
 from contextlib import contextmanager
 
@@ -20,15 +21,16 @@ from .. import listening, scgi
 from ..room.answers import Answer, Stop, told
 from ..room.paths import Names, chosen_in, names_in
 from ..room.room import Room
-from ..room.turns import Users
+from ..room.turns import RUNNING, Users
 from . import gate
 from .judging import LISTED, Look
 from .whole import archive
 
 # Connections at once, and of them about one room: so a room that hangs keeps nobody waiting who
-# asks for another one. ZIPs at once, which may be taken slowly. Seconds until it ends if nobody
-# asks.
-MOST, OF_ONE, ZIPS, IDLE = 64, 24, 8, 600.0
+# asks for another one. Beside these of one room so many of users who have as many as are answered:
+# so who asks again and again keeps nobody from it. ZIPs at once, which may be taken slowly. Seconds
+# until it ends if nobody asks.
+MOST, OF_ONE, MORE, ZIPS, IDLE = 64, 20, 4, 8, 600.0
 # How long a copy may take for an answer. (A server reads nothing of the disk for one.)
 PATIENCE = float(os.environ.get("ROOMS_NIGHTS_PATIENCE", "20"))
 _TARGET = re.compile(r"/earlier/(?:(nights)|(\d{4}-\d\d-\d\d\.\d{6})/(?:(doc|folder|dacl)/([^?]*)|"
@@ -41,17 +43,33 @@ class Today:
     def __init__(self, name: str) -> None:
         self.room = Room(os.path.join(locks.RUN, "rooms", name, "socket"), most=LISTED)
         self.users = Users()
-        self.free = threading.BoundedSemaphore(OF_ONE)
+        self._lock = threading.Lock()
+        # Who has a place, and who has one of those for more; each as often as they have.
+        self._placed: Counter[str] = Counter()
+        self._more: Counter[str] = Counter()
+
+    def _place(self, user: str) -> Counter[str]:
+        with self._lock:
+            has_more = self._placed[user] >= RUNNING
+            places, most = (self._more, MORE) if has_more else (self._placed, OF_ONE)
+            if places.total() < most:
+                places[user] += 1
+                return places
+        if has_more:
+            raise Stop(429, "too-many-requests", fields={"Retry-After": "10"})
+        raise Stop(503, "busy", fields={"Retry-After": "10"})
 
     @contextmanager
     def turn(self, user: str, word: str) -> Iterator[None]:
-        if not self.free.acquire(blocking=False):
-            raise Stop(503, "busy", fields={"Retry-After": "10"})
+        places = self._place(user)
         try:
             with self.users.turn(user, word if word in ("folder", "zip") else ""):
                 yield
         finally:
-            self.free.release()
+            with self._lock:
+                places[user] -= 1
+                if not places[user]:
+                    del places[user]
 
 
 class Judge:
