@@ -220,7 +220,7 @@ class Large(Over):
             one.join(30)
 
     def test_who_asks_again_and_again(self) -> None:
-        """Two users keep nobody else waiting, nor do some more."""
+        """Three users keep nobody else waiting."""
         today = judge.Today("office")
         held, said = threading.Event(), list[int]()
 
@@ -230,19 +230,19 @@ class Large(Over):
                     held.wait(20)
             except Stop as stop:
                 said.append(stop.status)
-        threads = [threading.Thread(target=asks, args=(f"user{n // 16}",)) for n in range(5 * 16)]
+        threads = [threading.Thread(target=asks, args=(f"user{n // 16}",)) for n in range(48)]
         for one in threads:
             one.start()
         until = time.monotonic() + 20
-        while len(said) < 5 * 16 - 10 - judge.MORE and time.monotonic() < until:
+        while len(said) + today._placed.total() < 48 and time.monotonic() < until:
             time.sleep(0.01)
         with today.turn("bob", "doc"), today.turn("carol", "folder"):
             pass
         held.set()
         for one in threads:
             one.join(30)
-        self.assertEqual(said, [429] * (5 * 16 - 10 - judge.MORE))
-        self.assertEqual((today._placed.total(), today._more.total()), (0, 0))
+        self.assertEqual((set(said), today._placed.total()), ({503}, 0))
+        self.assertLessEqual(28, len(said))
 
 
 class Another(Over):

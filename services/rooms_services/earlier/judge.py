@@ -21,16 +21,16 @@ from .. import listening, scgi
 from ..room.answers import Answer, Stop, told
 from ..room.paths import Names, chosen_in, names_in
 from ..room.room import Room
-from ..room.turns import RUNNING, Users
+from ..room.turns import RUNNING, WAITING, Users
 from . import gate
 from .judging import LISTED, Look
 from .whole import archive
 
 # Connections at once, and of them about one room: so a room that hangs keeps nobody waiting who
-# asks for another one. Beside these of one room so many of users who have as many as are answered:
-# so who asks again and again keeps nobody from it. ZIPs at once, which may be taken slowly. Seconds
-# until it ends if nobody asks.
-MOST, OF_ONE, MORE, ZIPS, IDLE = 64, 20, 4, 8, 600.0
+# asks for another one. So many of these are left by users of whom as many are under way as are
+# answered: so two who ask again and again keep nobody from a room's nights. ZIPs at once, which may
+# be taken slowly. Seconds until it ends if nobody asks.
+MOST, OF_ONE, LEFT, ZIPS, IDLE = 64, 24, 8, 8, 600.0
 # How long a copy may take for an answer. (A server reads nothing of the disk for one.)
 PATIENCE = float(os.environ.get("ROOMS_NIGHTS_PATIENCE", "20"))
 _TARGET = re.compile(r"/earlier/(?:(nights)|(\d{4}-\d\d-\d\d\.\d{6})/(?:(doc|folder|dacl)/([^?]*)|"
@@ -44,32 +44,29 @@ class Today:
         self.room = Room(os.path.join(locks.RUN, "rooms", name, "socket"), most=LISTED)
         self.users = Users()
         self._lock = threading.Lock()
-        # Who has a place, and who has one of those for more; each as often as they have.
+        # Of whom how many are under way.
         self._placed: Counter[str] = Counter()
-        self._more: Counter[str] = Counter()
 
-    def _place(self, user: str) -> Counter[str]:
+    def _place(self, user: str) -> None:
         with self._lock:
-            has_more = self._placed[user] >= RUNNING
-            places, most = (self._more, MORE) if has_more else (self._placed, OF_ONE)
-            if places.total() < most:
-                places[user] += 1
-                return places
-        if has_more:
-            raise Stop(429, "too-many-requests", fields={"Retry-After": "10"})
-        raise Stop(503, "busy", fields={"Retry-After": "10"})
+            own = self._placed[user]
+            if own >= RUNNING + WAITING:
+                raise Stop(429, "too-many-requests", fields={"Retry-After": "10"})
+            if self._placed.total() >= OF_ONE - (LEFT if own >= RUNNING else 0):
+                raise Stop(503, "busy", fields={"Retry-After": "10"})
+            self._placed[user] += 1
 
     @contextmanager
     def turn(self, user: str, word: str) -> Iterator[None]:
-        places = self._place(user)
+        self._place(user)
         try:
             with self.users.turn(user, word if word in ("folder", "zip") else ""):
                 yield
         finally:
             with self._lock:
-                places[user] -= 1
-                if not places[user]:
-                    del places[user]
+                self._placed[user] -= 1
+                if not self._placed[user]:
+                    del self._placed[user]
 
 
 class Judge:
