@@ -242,16 +242,13 @@ does 'the rooms end, and have a last backup' \
   "$(block docs/machines.md 'systemctl start "rooms-nightly@')"
 holds "which all went well: $(cat "$work/err")" \
   [ -z "$(grep -vE "isn't running, and is not started$|the certificate .* ends on " "$work/err")" ]
-does 'a password that is changed meanwhile' "$(got $named -u alice:typed -X POST \
-  -H 'Content-Type: application/json' -d '{"old":"typed","new":"Quite another 77"}' $site/password)"
-prints "isn't, since the new machine would have the old one" 502
 does 'for good' "$(block docs/machines.md 'systemctl disable --now "rooms@$room"')"
 does 'what the old machine serves' '
-  for unit in rooms@{office,invoices} rooms-nightly@{office,invoices}.timer \
-    rooms-own-password.socket; do systemctl is-active $unit; done
+  for unit in rooms@{office,invoices} rooms-nightly@{office,invoices}.timer; do
+    systemctl is-active $unit; done
   find /etc/systemd/system/*.wants -name "rooms@*" -o -name "rooms-*.timer" -o -name "*own-pass*"
   '"$(got $named -u alice:typed $site/doc/last)"
-prints 'is nothing' inactive inactive inactive inactive inactive 502
+prints 'is nothing' inactive inactive inactive inactive 502
 cp -a "$machine/var/backups/rooms" moved
 stop_proxy
 rm -rf "$machine"
@@ -267,9 +264,11 @@ holds "they start: $(tail -n 1 "$work/out")" eval \
 does 'and have all' "$(got $named -u alice:typed $site/doc/last); cat body; echo
   $(got $named -u alice:typed $site/doc/letter)
   $(got $named -u carol:typed $site/invoices/doc/one)
-  systemctl is-active rooms@office rooms@invoices rooms-own-password.socket \
-    rooms-nightly@office.timer rooms-nightly@invoices.timer"
-prints 'that was answered' 200 farewell 200 200 active active active active active
+  systemctl is-active rooms@office rooms@invoices \
+    rooms-nightly@office.timer rooms-nightly@invoices.timer
+  find /etc/systemd/system/*.wants -name '*own-pass*' -printf '%f\n'"
+prints 'that was answered, and changes of passwords' 200 farewell 200 200 active active active \
+  active rooms-own-password.socket
 
 # To another machine by ssh. Both are this one, with a layer above its disk and a network of its
 # own.
