@@ -50,7 +50,7 @@ echo wrong | tee new/var/backups/rooms/2026-11-20.030000/machine.tar \
 cp -Rp new fresh
 tree new >before
 brings new --dry-run latest
-says 'what would be done' 0 'would: new /var/lib/rooms-passwords/rooms.htpasswd'
+says 'what would be done' 0 'would: new file /var/lib/rooms-passwords/rooms.htpasswd'
 says 'and made' 0 'would: file /etc/rooms/invoices.conf'
 tree new >after
 same 'is not done' after before
@@ -163,6 +163,14 @@ cp -Rp good tree
 sed -i "s#^FILE=.*#FILE=$PWD/nowhere/F#" tree/etc/rooms/*.conf
 sed -i "s#^PROGRAM=.*#PROGRAM=$rooms#" tree/etc/rooms/*.conf
 pack start.tar
+brings started --start --dry-run "$PWD/start.tar"
+sed -n 's/^would: \(.*systemctl .*\|restored .*\)/\1/p' "$work/out" >got
+{
+  printf "restored $PWD/nowhere/F from latest\n%.0s" 1 2
+  printf 'systemctl %s\n' 'reload-or-restart nginx' "try-restart 'rooms-door@*'" \
+    'enable --now rooms-nightly@office.timer' 'enable --now rooms@office.service'
+} >wanted.start
+same 'what would be done with --start' got wanted.start
 brings started --start "$PWD/start.tar"
 says 'what is left, with --start' 1 "no folder: $PWD/nowhere"
 sed -n 's/^[0-9]* \(systemctl .*\)/\1/p' "$stand/steps" >got

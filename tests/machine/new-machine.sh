@@ -183,7 +183,7 @@ does 'dates of documents' \
   'printf "%s\n" "[\"letter\", 1700000000123, 5]" 1 >"$(rooms-admin latest)/dates"'
 does 'a look at what would be done' 'rooms-restore --machine --dry-run latest'
 holds 'names the passwords' \
-  grep -qx 'would: new /var/lib/rooms-passwords/rooms.htpasswd' "$work/out"
+  grep -qx 'would: new file /var/lib/rooms-passwords/rooms.htpasswd' "$work/out"
 does 'the machine and its rooms' "$(block docs/backup.md 'do rooms-admin restore --room')"
 holds 'it says that passwords may be back' grep -q '^Passwords are those of 20' "$work/out"
 holds 'it says what is left' \
