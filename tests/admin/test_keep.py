@@ -174,6 +174,24 @@ class Whole(Folder):
         os.utime(f"{place}/{self.room.base}")
         self.assertEqual(backups.find(self.room, "latest"), place)
 
+    def test_nor_is_one_without_its_file(self) -> None:
+        before = self.backup("2026-01-01.040000", 7)
+        place = self.backup("2026-01-02.040000")
+        with safe.opened(safe.folder(place)) as within:
+            backups.give_number(within, 8, self.room.base)
+        os.unlink(f"{place}/{self.room.base}")
+        empty = f"{os.path.dirname(place)}/2026-01-03.040000"
+        os.mkdir(empty, 0o700)
+        found = backups.look(self.room)
+        self.assertEqual([one.place for one in found.backups], [before])
+        self.assertEqual(found.wrong, [
+            f"not whole: {place}: {self.room.base} has 0 of 1 bytes",
+            f"not whole: {empty}: it is empty"])
+        # One of before FILE was another is none of this file.
+        with safe.opened(safe.folder(empty)) as within:
+            backups.give_number(within, 9, "other.rooms")
+        self.assertEqual(len(backups.look(self.room).wrong), 1)
+
 
 if __name__ == "__main__":
     unittest.main()

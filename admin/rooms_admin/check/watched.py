@@ -151,7 +151,7 @@ def see_backups(room: Room) -> list[Finding]:
         return [(CRITICAL, f"no folder of backups: {room.backups}")]
     found = [_space(room.backups, "the disk of backups", server.size_of(room.file))]
     seen = backups.look(room)
-    found += [(CRITICAL, one) for one in seen.wrong]
+    found += [(CRITICAL, one) for one in (*seen.wrong, backups.jump(seen)) if one]
     times = []
     for backup in seen.backups:
         try:

@@ -111,7 +111,7 @@ class Machine:
         for name in self.added:
             print(f"would: file /{name}")
         for name in self.changed:
-            print(f"would: new /{name}")
+            print(f"would: new file /{name}")
         for name in self.going:
             print(f"would: /{name} is removed")
 
@@ -155,7 +155,7 @@ class Machine:
                 raise Stop(f"/{name} can't be written: {safe.reason(fault)}; the same command goes "
                            f"on, and rooms-admin restore --machine {self.before} goes back"
                            ) from fault
-            print(f"file /{name}")
+            print(f"{'new ' if name in self.changed else ''}file /{name}")
         for name in self.going:
             with _above(name) as within:
                 os.unlink(os.path.basename(name), dir_fd=within)
@@ -200,17 +200,31 @@ def start_all(tar: Tar) -> int:
         except (Stop, OSError) as fault:
             say(str(fault))
             failed += 1
-    words = [["reload-or-restart", "nginx"]] if commands.shown(["nginx", "-t"]) else []
-    failed += not words
-    # (a door that runs has the settings of before)
-    words += [["try-restart", "rooms-door@*"]]
-    words += [["enable", "--now", one] for one in tar.lines("machine/enabled")]
+    words = _starting(tar)
+    if not commands.shown(["nginx", "-t"]):
+        failed += 1
+        words = words[1:]
     for one in words:
         print(shlex.join(["systemctl", *one]))
         if server.systemctl(*one)[0] != 0:
             say("failed: " + shlex.join(["systemctl", *one]))
             failed += 1
     return 1 if failed else 0
+
+
+def _starting(tar: Tar) -> list[list[str]]:
+    # (a door that runs has the settings of before)
+    return [["reload-or-restart", "nginx"], ["try-restart", "rooms-door@*"],
+            *(["enable", "--now", one] for one in tar.lines("machine/enabled"))]
+
+
+def would_start(tar: Tar) -> None:
+    for name in tar.rooms():
+        file = setting_of(tar.files[name].data, "FILE")
+        if not os.path.lexists(file):
+            print(f"would: restored {file} from latest")
+    for words in _starting(tar):
+        print(f"would: {shlex.join(['systemctl', *words])}")
 
 
 def tell_rest(task: Machine) -> None:
