@@ -229,6 +229,12 @@ members_are 'that names him' clerks,carol staff,alice staff,carol
 setting PASSWORDS directory
 room_verb user remove dana
 says 'whose password is elsewhere' 0 "passwords of office aren't in its file: dana has to leave"
+setting GUESTS yes
+echo 'gina:{PLAIN}p' >>"$passwords"
+room_verb user remove gina
+says 'a guest' 0 'no password for gina any more, in '
+holds 'has left with that' [ "$(grep -c "aren't in its file" "$work/err")" = 0 ]
+setting GUESTS no
 setting PASSWORDS file
 # So are those of a room on a machine without its front end, where whoever has one isn't known.
 setting BEHIND yes

@@ -108,7 +108,8 @@ def leave(asked: Leaving) -> int:
             return 1
         _tell_last(asked, room, lists)
         _leave_groups(asked, room, before, newest_one)
-    if not room.has_passwords:
+    # A guest's was in the file.
+    if not room.has_passwords and not (done and room.lets_guests):
         say(f"passwords of {asked.place} aren't in its file: {asked.name} has to leave where they "
             "are too")
     for one in naming.without_parts(found):
