@@ -5,12 +5,12 @@ import os
 from collections.abc import Iterator
 from dataclasses import dataclass
 
-from ..cli import alike
+from ..cli import alike, report
 from ..passwords import passwords
 from ..backup import dates
 from ..lists import dump, naming, would
 from . import handing_over, joining, known, look, members, offered
-from ..cli.report import Refused, Stop, line, say
+from ..cli.report import Interrupted, Refused, Stop, line, say
 from ..room.http_client import Caller
 from ..room.settings import Room
 from ..lists.dump import Object
@@ -39,7 +39,9 @@ def _shut_out(asked: Leaving) -> None:
     if asked.is_dry:
         print(f"would: no password for {asked.name} any more, in {asked.file}")
         return
-    passwords.change(asked.place, {asked.name: None})
+    with report.signals_wait():
+        passwords.change(asked.place, {asked.name: None})
+        report.did(f"{asked.name} has no password any more")
     print(f"no password for {asked.name} any more, in {asked.file}", flush=True)
 
 
@@ -125,6 +127,8 @@ def _tell_last(asked: Leaving, room: Room, lists: bytes) -> None:
                            or one.path == b"/"), b"/", b"/", [b"look /"])
     try:
         who = {one.user for one in would.answered(room, root) if "C" in one.rights} if root else ()
+    except Interrupted:
+        raise
     except Stop as stop:
         say(str(stop))
         return
