@@ -219,6 +219,21 @@ echo HOURS=1 >>root/etc/rooms/bills.on
 checks 'one with settings that it has not' 2 'bills: bad settings: '
 rm -r root/etc/rooms/{bills.on,machines}
 
+# A machine with rooms for another one's front end alone, or none yet: the site's own was never made.
+echo HOSTS=rooms.example >root/etc/rooms/site
+settings "FILE=$PWD/office/none" "BACKUPS=$PWD/none"
+checks 'a room that nobody has made' 0 'rooms OK - office: nobody has made it yet'
+mkdir -p root/etc/systemd/system/multi-user.target.wants
+ln -s /dev/null root/etc/systemd/system/multi-user.target.wants/rooms@office.service
+checks 'one that is gone' 2 "office: $PWD/office/none can't be read"
+rm -r root/etc/systemd/system/multi-user.target.wants
+mkdir none
+settings "FILE=$PWD/none/F"
+checks 'or has backups' 2 "office: $PWD/none/F can't be read"
+rmdir none
+settings
+rm root/etc/rooms/site
+
 # Units, timers, mail, groups.
 echo 'rooms-standby@office.service loaded failed failed Standby copy' >failed
 checks 'a unit that failed' 2 'failed: rooms-standby@office.service: systemctl status says why; '

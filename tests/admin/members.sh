@@ -278,7 +278,6 @@ unit_rests 'goes on to rest'
 # Who has left a group is in it again by a backup that is put in the room's place.
 mkdir backups/then
 cp office/F* backups/then
-as_user "$rooms" dump "$PWD/office/F" >backups/then/lists.txt
 room_verb user change carol --drop clerks
 ended_well 'somebody leaves a group'
 room_verb restore --dry-run "$PWD/backups/then"

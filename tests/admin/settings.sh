@@ -181,6 +181,22 @@ ROOMS_RUN=$PWD/run "$repo/admin/rooms-admin" set --room "$PWD/own.conf" "FILE=$P
 status=$?
 told 'a file that comes later' 0 "no file: $PWD/place/E isn't there"
 
+# A port that another program has.
+sed -i 's/^UNIT=.*/UNIT=/' own.conf
+cp own.conf before
+python3 -m http.server --bind 127.0.0.1 8993 >/dev/null 2>&1 &
+until (: </dev/tcp/127.0.0.1/8993) 2>/dev/null; do sleep 0.1; done
+for words in --dry-run ''; do
+  # shellcheck disable=SC2086
+  ROOMS_RUN=$PWD/run "$repo/admin/rooms-admin" set $words --room "$PWD/own.conf" PORT=8993 \
+    >"$work/out" 2>"$work/err" </dev/null
+  status=$?
+  told "a port of another program $words" 2 'port in use: something listens at 127.0.0.1:8993'
+  same "which isn't written $words" own.conf before
+done
+kill %1
+wait
+
 # Whoever reads the first lines alone ends nothing.
 mkdir -p unread/etc/rooms
 printf '%s\n' FILE=/F BACKUPS=/b KEEP=1 >unread/etc/rooms/office.conf

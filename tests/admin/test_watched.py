@@ -17,10 +17,11 @@ from collections.abc import Iterator
 sys.path.insert(0, os.path.join(os.path.dirname(__file__), "..", "..", "admin"))
 
 from rooms_admin.backup import dates, for_search  # noqa: E402
-from rooms_admin.host import locks, mail, root  # noqa: E402
+from rooms_admin.cli.report import Refused  # noqa: E402
+from rooms_admin.host import changes, locks, mail, root  # noqa: E402
 from rooms_admin.room import health, server, settings  # noqa: E402
 from rooms_admin.check import finding, front, verb_tell, watched  # noqa: E402
-from rooms_admin.site import served  # noqa: E402
+from rooms_admin.site import certificates, served, setting_up  # noqa: E402
 
 
 class Answers(socketserver.StreamRequestHandler):
@@ -73,6 +74,19 @@ class Watched(unittest.TestCase):
             raise OSError("no")
         self.assertEqual(watched.within(60, fails, "/mnt"), [(2, "/mnt can't be looked at")])
 
+    def test_a_certificate_of_a_clock_that_was_ahead(self) -> None:
+        with tempfile.TemporaryDirectory() as home, \
+                unittest.mock.patch.object(certificates, "ROOT", home):
+            certify(f"{home}/rooms.pem")
+            pair = f"{home}/rooms.pem", f"{home}/rooms.pem.key"
+            self.assertEqual(certificates.begins_later(pair[0]), "")
+            with unittest.mock.patch.object(time, "time", return_value=time.time() - 7200):
+                level, said = certificates.see_certificate("/rooms.pem")
+                self.assertEqual(level, 2)
+                self.assertIn("the certificate /rooms.pem doesn't count before ", said)
+                with self.assertRaisesRegex(Refused, "too early: .*: is the clock right"):
+                    setting_up.look_at_pair(changes.Changes(home, False), *pair)
+
     def test_a_certificate_that_nginx_has_not_read(self) -> None:
         with tempfile.TemporaryDirectory() as home, \
                 unittest.mock.patch.object(root, "ROOT", home):
@@ -94,6 +108,34 @@ class Watched(unittest.TestCase):
             open(f"{home}/etc/nginx/sites-enabled/rooms", "w", encoding="ascii").close()
             with unittest.mock.patch.object(served, "FRONT", "127.0.0.1:1"):
                 self.assertEqual(served.see_renewal("/rooms.pem"), "")
+
+    def test_a_room_for_the_front_end_of_another_machine(self) -> None:
+        with tempfile.TemporaryDirectory() as home, \
+                unittest.mock.patch.object(root, "ROOT", home):
+            os.makedirs(f"{home}/etc/rooms/machines")
+            os.makedirs(f"{home}/etc/nginx/sites-enabled")
+            room = typing.cast(typing.Any, types.SimpleNamespace(
+                name="wiki", unit="rooms@wiki", behind=True))
+            nothing = [(2, "nginx passes nothing on to its socket")]
+            self.assertEqual(front.see_behind(room), nothing)
+            with open(f"{home}/etc/nginx/sites-enabled/rooms", "w", encoding="ascii") as site:
+                site.write("upstream room_wiki { server unix:/run/rooms/wiki/socket; }\n")
+            machine = f"{home}/etc/rooms/machines/machine.pem"
+            certify(machine)
+            with by_tls(machine) as where, unittest.mock.patch.object(
+                    front, "BEHIND", int(where.partition(":")[2])):
+                self.assertEqual([level for level, _ in front.see_behind(room)], [0])
+                certify(machine)
+                (level, said), = front.see_behind(room)
+                self.assertEqual((level, said), (
+                    1, "nginx has another certificate than /etc/rooms/machines/machine.pem: "
+                    "systemctl reload nginx"))
+            with unittest.mock.patch.object(front, "BEHIND", 1):
+                (level, said), = front.see_behind(room)
+                self.assertEqual(level, 2)
+                self.assertRegex(said, "^nginx doesn't answer at 1: ")
+            room.behind = False
+            self.assertEqual(front.see_behind(room), [])
 
     def test_a_room_on_another_machine(self) -> None:
         """It is asked as nginx asks it: by our certificate, the authority of machines alone, and

@@ -130,6 +130,19 @@ restarts_well() { # NAME HOW-CURL-GETS-THERE
   done
 }
 restarts_well 'at its socket' '--unix-socket /run/rooms/office/socket http://localhost'
+# A port that another program has is told, and listened at once it is free.
+does 'another program at the port' 'systemd-run -q --unit=other python3 -m http.server \
+    --bind 127.0.0.1 8780 && until (: </dev/tcp/127.0.0.1/8780) 2>/dev/null; do sleep 0.1; done
+  rooms-admin set PORT=8780 && echo set
+  cp -p /etc/rooms/office.conf /root/; echo PORT=8780 >>/etc/rooms/office.conf
+  rooms-admin setup; echo "status $?"; systemctl stop other; rooms-admin setup; echo "then $?"
+  systemctl is-active rooms-port@office.socket'
+for text in 'nothing listens at the port of office: ' 'status 1' 'then 0' active; do
+  holds "is told: $text" grep -q "^$text" "$work/out"
+done
+holds 'and refused by the verb' eval '! grep -qx set "$work/out"'
+does 'as it was' 'mv /root/office.conf /etc/rooms/; rooms-admin setup
+  systemctl reset-failed rooms-port@office.socket || :'
 # A port beside it, and none again, by the blocks of the page: only root and nginx are answered
 # there, whatever rules of the firewall somebody loads.
 does 'a port' "$(block docs/operating.md 'set PORT=8780')"

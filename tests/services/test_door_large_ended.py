@@ -282,7 +282,10 @@ class Damaged(Large):
         def remove() -> None:
             for thread in threads:
                 thread.start()
-            time.sleep(0.3)
+            until = time.monotonic() + 20
+            while not any("0002?dDwrx" in one for one in self.judged.seen) \
+                    and time.monotonic() < until:
+                time.sleep(0.01)
         with self.in_the_middle(remove):
             self.assertEqual(self.put(self.data, path="p/x"), 201)
         for thread in threads:

@@ -4,6 +4,7 @@ import os
 import re
 import ssl
 
+from ..backup import backups
 from ..host import changes, commands, root
 from ..room import settings
 from ..site import connections, served, template
@@ -18,11 +19,35 @@ CONNECTIONS = 768
 PATIENCE = 20
 # The same that another machine may take for each part of an answer.
 FAR = 10
+# Where nginx waits for another machine's front end, and by which certificate.
+BEHIND = 8443
+_MACHINE = f"{template.MACHINES}/machine.pem"
 # What nginx says where it does its part: it asks for a password, or sends on to where it does.
 _LEADS = (301, 302, 303, 307, 308)
 _ASKS = (200, *_LEADS, 401, 403, 429)
 _POLICY = "default-src 'none'; script-src 'self'; "
+_OFFICE = "rooms@office"
 _REALM = re.compile(r'Basic realm="rooms(-[a-z0-9-]+)?"', re.ASCII)
+
+
+def is_unmade(conf: str) -> bool:
+    """The site's own room, where nobody has made it: a machine may have rooms for another one's
+    front end alone, or none yet."""
+    try:
+        kept = settings.kept(conf)
+    except Refused:
+        return False
+    unit = settings.value(conf, "UNIT") or _OFFICE
+    wants = f"{root.ROOT}/etc/systemd/system/multi-user.target.wants/{_OFFICE}.service"
+    return (kept.name == "office" and unit == _OFFICE and not os.path.lexists(kept.file)
+            and not os.path.lexists(wants)
+            and not backups.with_file(kept.backups, kept.name, os.path.basename(kept.file)))
+
+
+def _shows_a_room() -> bool:
+    """At the ports where users come."""
+    return any(not is_unmade(f"{settings.HOME}/{one.name}.conf")
+               for one in template.gather(root.ROOT).shown)
 
 
 def _place(room: Room) -> tuple[str, str] | None:
@@ -82,6 +107,28 @@ def see_front(room: Room) -> list[Finding]:
             asked.close()
     return [(CRITICAL, f"another site of nginx's answers for {place[0]}: HOSTS in /etc/rooms/site "
              "names those of the rooms; then rooms-admin setup")]
+
+
+def see_behind(room: Room) -> list[Finding]:
+    """The port at which nginx lets the front end of another machine in. Whoever has no certificate
+    of the front end's is answered, and gets no further."""
+    if not room.behind or room.unit != f"rooms@{room.name}":
+        return []
+    if not _passes_on(room):
+        return [(CRITICAL, "nginx passes nothing on to its socket")]
+    asked = served.Named("", BEHIND)
+    try:
+        asked.request("GET", "/", headers={"Connection": "close"})
+        asked.getresponse()
+        if asked.certificate == served.first_of(_MACHINE):
+            return [(OK, f"nginx answers at {BEHIND}")]
+    except PermissionError:
+        return [(OK, f"nginx answers at {BEHIND}")]
+    except (OSError, ValueError, http.client.HTTPException) as fault:
+        return [(CRITICAL, f"nginx doesn't answer at {BEHIND}: {fault}")]
+    finally:
+        asked.close()
+    return [(WARNING, f"nginx has another certificate than {_MACHINE}: systemctl reload nginx")]
 
 
 def _to(place: Place) -> http.client.HTTPSConnection:
@@ -178,10 +225,10 @@ def see_tls() -> list[Finding]:
         return []
     try:
         front = settings.front(file)
+        if front.certificate or front.unencrypted or not _shows_a_room():
+            return []
     except Refused:
-        # That is told by the look at its certificate.
-        return []
-    if front.certificate or front.unencrypted:
+        # That is told by the look at its certificate, or at a room.
         return []
     return [(WARNING, "passwords and documents travel unencrypted: rooms-admin setup --tls, or "
              f"UNENCRYPTED=yes in {template.SETTINGS} if that is meant")]

@@ -22,7 +22,7 @@ from ..host.commands import printed
 from ..room.settings import Room
 from ..room.size import NoRoom, Used
 from .finding import CRITICAL, OK, WARNING, Finding
-from .front import FAR, see_front, see_machine, see_there
+from .front import FAR, is_unmade, see_behind, see_front, see_machine, see_there
 
 HOUR = 3600
 # Seconds. Whoever a server or nginx is by now could answer so slowly that it never ends.
@@ -408,9 +408,11 @@ def of_place(path: str, machines: dict[str, list[Finding]]) -> list[Finding]:
 
 
 def of_room(conf: str) -> list[Finding]:
+    if is_unmade(conf):
+        return [(OK, "nobody has made it yet")]
     room = settings.room(conf)
-    looks = [see_owner, see_namespaces, see_answer, see_door, see_front, see_groups, see_timer,
-             see_mail, see_search]
+    looks = [see_owner, see_namespaces, see_answer, see_door, see_front, see_behind, see_groups,
+             see_timer, see_mail, see_search]
     return [*(found for look in looks
               for found in within(PATIENCE, lambda: look(room), f"{room.unit} or nginx")),
             *within(20, lambda: see_disk(room), f"{room.folder}"),

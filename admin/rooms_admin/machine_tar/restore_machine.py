@@ -14,6 +14,7 @@ from ..host import commands, locks, safe, waiting
 from ..room import forms, program, server, settings
 from ..passwords import passwords
 from ..backup import restoring
+from ..people.coming_back import ComingBack
 from . import machine, machine_tar
 from ..cli.report import Refused, Stop, say
 from ..host.root import ROOT
@@ -193,7 +194,9 @@ def start_all(tar: Tar) -> int:
         try:
             room = settings.room(conf)
             if not os.path.lexists(room.file):
-                restoring.restore_room(conf, "latest", False, True)
+                coming = ComingBack(room, False)
+                restoring.restore_room(conf, "latest", False, True, coming.look)
+                coming.tell()
         except (Stop, OSError) as fault:
             say(str(fault))
             failed += 1

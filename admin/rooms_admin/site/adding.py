@@ -3,12 +3,11 @@ fails."""
 import argparse
 import os
 import shlex
-import socket
 import time
 
 from ..host import changes
 from ..room import forms, names, published, settings
-from . import apply, password_files, setting_up, template
+from . import apply, password_files, ports, setting_up, template
 from ..cli import report
 from ..cli.report import Refused, Stop
 from ..host.changes import Changes
@@ -102,9 +101,7 @@ class NewRoom:
             raise Refused(f"bad port: '{wanted}'")
         if wanted in owners:
             raise Refused(f"port in use: {owners[wanted]} has {wanted}")
-        if _listens(wanted):
-            raise Refused(f"port in use: something listens at 127.0.0.1:{wanted} (ss -ltnp shows "
-                          "what)")
+        ports.need_free(self.made.root, self.name, wanted)
         settings.need_own_port(self.conf, wanted)
         return wanted
 
@@ -230,11 +227,6 @@ def _ports(root: str) -> dict[str, str]:
             path = f"{root}/etc/rooms/{one}"
             found[settings.port(path)] = path
     return found
-
-
-def _listens(port: str) -> bool:
-    with socket.socket() as one:
-        return one.connect_ex(("127.0.0.1", int(port))) == 0
 
 
 def elsewhere(made: Changes, name: str, on: str, port: str, title: str) -> int:

@@ -76,13 +76,14 @@ def _show_edited(made: Changes, wanted: template.Site, start: bytes) -> bool:
 
 
 def show(made: Changes) -> bool:
-    """Whether nginx has the site of the settings now. If it refuses that, all is as before."""
+    """Whether nginx has the site of the settings now, and all ports are listened at. If it refuses
+    that, all is as before."""
     root = made.root
     # Settings that can't be are refused before anything is changed.
     wanted = look(root)
     # Also where the site is edited, and stays.
     values.tell_gone(made)
-    ports.put(made)
+    listen = ports.put(made)
     _start_doors(made, wanted)
     made.forget()
     is_edited = edited(root)
@@ -92,7 +93,7 @@ def show(made: Changes) -> bool:
     # Also of what somebody puts into the edited one's place.
     is_unread = _is_unread(made)
     if is_edited:
-        return _show_edited(made, wanted, start)
+        return _show_edited(made, wanted, start) and listen
     count = made.count
     gone = password_files.move(made, wanted)
     text = template.render(template.template("site.conf.in"), wanted)
@@ -115,7 +116,7 @@ def show(made: Changes) -> bool:
     serve(made, wanted)
     if changed:
         _see_tls(made, wanted)
-    return True
+    return listen
 
 
 def _see_tls(made: Changes, wanted: template.Site) -> None:

@@ -1,6 +1,8 @@
 """The certificate of the site, as its settings name it, and whether one ends soon."""
 import os
 import re
+import ssl
+import time
 
 from ..cli.report import Stop
 from ..host import commands
@@ -35,6 +37,8 @@ def see_certificate(file: str) -> tuple[int, str]:
     if not ends:
         return 2, (f"the certificate {file} can't be used, and nginx doesn't start again without "
                    "it: docs/operating.md, TLS")
+    if begins := begins_later(ROOT + file):
+        return 2, f"the certificate {file} doesn't count before {begins}: is the clock right?"
     if not printed([*asks, "-checkend", "0"]).startswith("Certificate will not"):
         return 2, f"the certificate {file} has expired, on {ends}: docs/operating.md, Renewal"
     if not printed([*asks, "-checkend", str(days * 86400)]).startswith("Certificate will not"):
@@ -43,6 +47,12 @@ def see_certificate(file: str) -> tuple[int, str]:
         return 1, (f"the certificate {file} ends on {above}, with one that certifies it: "
                    "docs/operating.md, Renewal")
     return 0, f"the certificate ends on {ends}"
+
+
+def begins_later(path: str) -> str:
+    """From when on browsers take it, if they don't yet: it may be of a clock that was ahead."""
+    begins = printed(["openssl", "x509", "-in", path, "-noout", "-startdate"]).partition("=")[2]
+    return begins if begins and ssl.cert_time_to_seconds(begins) > time.time() else ""
 
 
 def _above_ends(file: str, seconds: int) -> str:

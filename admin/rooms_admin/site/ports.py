@@ -3,10 +3,13 @@ is sent. No unit takes its port from a file of settings, so it is told which one
 import contextlib
 import glob
 import os
+import socket
 
+from ..cli.report import Refused
 from ..host import changes
 from ..host.changes import Changes
 from ..room import forms, names, settings
+from . import template
 
 _UNITS = "/etc/systemd/system"
 
@@ -25,6 +28,20 @@ def _is_on(root: str, name: str) -> bool:
 
 def runs(unit: str) -> bool:
     return changes.run("systemctl", "is-active", "-q", unit, check=False)[0] == 0
+
+
+def need_free(root: str, name: str, port: str) -> None:
+    """Refuses one that another program has, unless this room's unit was told to listen there."""
+    if _text(port) == template.read(root + _line(name)):
+        return
+    with socket.socket() as one:
+        if one.connect_ex(("127.0.0.1", int(port))) == 0:
+            raise Refused(f"port in use: something listens at 127.0.0.1:{port} (ss -ltnp shows "
+                          "what)")
+
+
+def _text(port: str) -> str:
+    return f"[Socket]\nListenStream=\nListenStream=127.0.0.1:{port}\n"
 
 
 def _there(root: str) -> set[str]:
@@ -49,9 +66,10 @@ def _wanted(root: str) -> dict[str, str]:
     return found
 
 
-def put(made: Changes) -> None:
-    """Brings the units into line with the settings. A server of a version before, which has the
-    port itself, gets a socket by a restart, before nginx asks there."""
+def put(made: Changes) -> bool:
+    """Brings the units into line with the settings, and says whether all listen. A server of a
+    version before, which has the port itself, gets a socket by a restart, before nginx asks there.
+    """
     ports = _wanted(made.root)
     changed = set()
     for name in sorted(_there(made.root) - set(ports)):
@@ -62,19 +80,27 @@ def put(made: Changes) -> None:
             with contextlib.suppress(OSError):
                 os.rmdir(os.path.dirname(made.root + _line(name)))
     for name, port in sorted(ports.items()):
-        text = f"[Socket]\nListenStream=\nListenStream=127.0.0.1:{port}\n"
-        if made.file(_line(name), text.encode()) or not _is_on(made.root, name):
+        if made.file(_line(name), _text(port).encode()) or not _is_on(made.root, name):
             changed.add(name)
     if changed:
         made.systemctl("daemon-reload")
-    for name in sorted(changed & set(ports)):
-        _listen(made, name)
+    # Another program may have had the port until now.
+    silent = {name for name in set(ports) - changed
+              if _serves(made, name) and not runs(_unit(name))}
+    return all([_listen(made, name) for name in sorted(changed & set(ports) | silent)])
 
 
-def _listen(made: Changes, name: str) -> None:
-    is_on = not made.root and os.path.isdir("/run/systemd/system") and runs(f"rooms@{name}")
+def _serves(made: Changes, name: str) -> bool:
+    return not made.root and os.path.isdir("/run/systemd/system") and runs(f"rooms@{name}")
+
+
+def _listen(made: Changes, name: str) -> bool:
+    is_on = _serves(made, name)
     if is_on and not os.path.exists(f"/run/rooms/{name}/socket"):
         made.systemctl("try-restart", f"rooms@{name}", check=False)
-    made.systemctl("enable", _unit(name))
+    if not _is_on(made.root, name):
+        made.systemctl("enable", _unit(name))
     if is_on and not made.systemctl("restart", _unit(name), check=False):
         print(f"nothing listens at the port of {name}: systemctl status {_unit(name)}")
+        return False
+    return True

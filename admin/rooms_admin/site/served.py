@@ -20,8 +20,8 @@ _BEGIN, _END = "-----BEGIN CERTIFICATE-----", "-----END CERTIFICATE-----"
 class Named(http.client.HTTPSConnection):
     """This machine, by the name of a site. Its certificate is looked at by itself."""
 
-    def __init__(self, host: str) -> None:
-        super().__init__(FRONT, timeout=20)
+    def __init__(self, host: str, port: int | None = None) -> None:
+        super().__init__(FRONT, port, timeout=20)
         self.named = host
         self.certificate: bytes | None = None
 
@@ -39,7 +39,7 @@ def shows_rooms() -> bool:
     return os.path.lexists(f"{root.ROOT}/etc/nginx/sites-enabled/rooms")
 
 
-def _first_of(file: str) -> bytes:
+def first_of(file: str) -> bytes:
     with open(root.ROOT + file, encoding="ascii", errors="replace") as source:
         _, begin, rest = source.read().partition(_BEGIN)
     return ssl.PEM_cert_to_DER_cert(begin + rest.partition(_END)[0] + _END)
@@ -54,7 +54,7 @@ def see_renewal(file: str) -> str:
         asked = Named(settings.front(root.ROOT + template.SETTINGS).hosts[0])
         asked.connect()
         asked.close()
-        if asked.certificate == _first_of(file):
+        if asked.certificate == first_of(file):
             return ""
     except (OSError, ValueError, Refused):
         return ""
@@ -70,7 +70,7 @@ def see_reload(file: str) -> str:
             asked = Named(settings.front(root.ROOT + template.SETTINGS).hosts[0])
             asked.connect()
             asked.close()
-            if asked.certificate == _first_of(file):
+            if asked.certificate == first_of(file):
                 return ""
         except (OSError, ValueError):
             pass

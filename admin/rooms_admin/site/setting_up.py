@@ -11,7 +11,7 @@ from ..host import changes, commands
 from ..room import forms, program as runs, settings
 from ..passwords import passwords
 from ..directory import directory, guests
-from . import apache, apply, password_files, template, values
+from . import apache, apply, certificates, password_files, template, values
 from ..cli.report import Refused, Stop, say
 from ..host.changes import Changes
 
@@ -157,6 +157,9 @@ def look_at_pair(made: Changes, certificate: str, key: str) -> tuple[str, str]:
         raise Refused(f"no pair: {key} isn't the key of the certificate {certificate}")
     if not _pem(certificate, "x509", "-noout", "-checkend", "0"):
         raise Refused(f"expired: {certificate}")
+    if begins := certificates.begins_later(certificate):
+        raise Refused(f"too early: {certificate} doesn't count before {begins}: is the clock "
+                      "right?")
     apply.look_at_link(made.root)
     _try_pair(certificate, key)
     if os.stat(key).st_mode & 0o004:

@@ -10,7 +10,7 @@ from ..cli import alike, words
 from ..host import locks
 from ..host.changes import Changes, changes_asked_for
 from ..room import server, settings, there
-from . import apply, template, values
+from . import apply, ports, template, values
 from ..cli.report import Refused, say
 
 # Who reads what only when it starts.
@@ -69,6 +69,14 @@ def _need_places(path: str, wanted: dict[str, str]) -> None:
         there.folder(path, wanted["FILE"])
 
 
+def _need_port(path: str, text: str, wanted: dict[str, str]) -> None:
+    """One at which another program listens; a server of one's own unit has it itself."""
+    name = settings.name_of(path)
+    unit = settings.last(text.split("\n"), "UNIT")
+    if wanted.get("PORT") and path.endswith(".conf") and unit in (None, "", f"rooms@{name}"):
+        ports.need_free("", name, wanted["PORT"])
+
+
 def _refusal(root: str) -> str:
     """What setup says against the settings of all rooms."""
     try:
@@ -125,6 +133,7 @@ def run(given: argparse.Namespace) -> int:
         _need_unit(made, path, wanted.get("UNIT", ""))
         if not made.root:
             _need_places(path, wanted)
+            _need_port(path, then, wanted)
         refusal = _look_at_all(made.root, path, then)
         changed = {name for name, value in wanted.items()
                    if settings.value(made.root + path, name) != value}
