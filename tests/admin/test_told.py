@@ -315,6 +315,19 @@ class Moved(Passwords):
                 self.assertEqual(passwords.room_of(file), name)
 
 
+class Interruptions(unittest.TestCase):
+    def test_what_was_done_is_told(self) -> None:
+        self.addCleanup(setattr, report, "_did", None)
+        report.did("what nobody asks for")
+        self.assertEqual(str(report.interrupted()), "interrupted")
+        report.nothing_yet()
+        self.assertEqual(str(report.interrupted()), "interrupted: nothing was changed")
+        report.did("the list is set")
+        report.did("all is well")
+        self.assertEqual(str(report.interrupted()),
+                         "interrupted: this alone was done: the list is set; all is well")
+
+
 class Guests(unittest.TestCase):
     """Whom a directory has, and who has a password in a room's file."""
 
