@@ -134,8 +134,8 @@ def run(given: argparse.Namespace) -> int:
     which = "sacl" if given.sacl else "dacl"
     text = b""
     if given.what == "set":
-        text = asked.list_text()
         report.nothing_yet()
+        text = asked.list_text()
     os.umask(0o077)
     os.chdir("/")
     room = settings.room(given.room)
