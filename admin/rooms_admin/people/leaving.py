@@ -6,7 +6,7 @@ from collections.abc import Iterator
 from dataclasses import dataclass
 
 from ..cli import alike, report
-from ..passwords import passwords
+from ..passwords import passwords, remembered
 from ..backup import dates
 from ..lists import dump, naming, would
 from . import handing_over, joining, known, look, members, offered
@@ -95,6 +95,8 @@ def leave(asked: Leaving) -> int:
         _shut_out(asked)
         done = f"{asked.name} has no password any more"
     if not asked.is_dry:
+        # Also of whom a directory has shut out.
+        remembered.forget([asked.name])
         dates.tell(room, "forget", asked.name)
     with joining.locked(room, "" if asked.is_dry else done, not asked.is_dry) as newest_one:
         groups, dumped = look.tried(room, "groups-out", "dump", may_stop=not asked.is_dry)
