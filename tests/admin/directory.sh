@@ -272,6 +272,9 @@ unchanged 'a group without a member' 2 'empty: abroad would have no member; --fo
 asked 'MOST=0' 'group staff = staff' 'group sales = Human Resources'
 brings
 unchanged 'too much would go' 2 'too much: 2 pairs would go, and MOST is 0'
+brings --dry-run
+says 'of which a dry run shows the pairs, and says so' 2 'too much: 2 pairs would go, and MOST is 0'
+holds 'both of them' [ "$(grep -c '^- ' "$work/out")" = 2 ]
 asked 'group staff = staff' 'group bad name = sales'
 brings
 unchanged 'a group that no room has' 2 "'bad name' can't be a group of a room"

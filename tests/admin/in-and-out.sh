@@ -158,6 +158,8 @@ told 'by its settings' 0 'left out 0'
 holds 'all comes out' diff -r tree named
 transfers import --user root --room office tree /in
 told 'with a password' 2 'bad arguments: nobody asks for a password at the room office itself'
+transfers import --user root tree /in
+told 'of office too' 2 'bad arguments: nobody asks for a password at the room office itself'
 transfers import --as root --room invoices tree /in
 told 'a room that is not there' 2 \
   "bad arguments: the room is an address such as https://rooms.example, or the name of one on this machine, not 'invoices'"

@@ -15,6 +15,7 @@ root_sets_a_list() {
   whole() {
     listed >got
     holds "$1: the list is one of both" eval 'cmp -s got list_before || cmp -s got typed'
+    is_told "$1" "$(cmp -s got list_before || echo 'the list is set')"
   }
   again() {
     told "$1: the same command" 0

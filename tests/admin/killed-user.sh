@@ -36,7 +36,11 @@ somebody_joins() {
 }
 somebody_changes() {
   before() { afresh; }
-  whole() { passwords_are_whole "$1" nobody; }
+  whole() {
+    passwords_are_whole "$1" nobody
+    is_told "$1" \
+      "$(seen groups-out | grep -qx clerks,bob && echo 'who is in which group has changed')"
+  }
   again() {
     told "$1: the same command" 0 'groups 1, members 2'
     members_are "$1: does all of it" clerks,bob clerks,carol

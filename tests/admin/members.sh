@@ -227,8 +227,21 @@ room_verb members "$PWD/old.csv"
 says 'nor into a group that is there' 2 'no user: bob has no password and is in no group'
 members_are 'that names him' clerks,carol staff,alice staff,carol
 setting PASSWORDS directory
+mkdir -p "$ROOMS_RUN/rooms-front/remembered"
+for one in dana Dana eve; do
+  printf 'x\nKEY: rooms basic %s\n' "$(printf '%s:p' $one | base64)" \
+    >"$ROOMS_RUN/rooms-front/remembered/$one"
+done
 room_verb user remove dana
 says 'whose password is elsewhere' 0 "passwords of office aren't in its file: dana has to leave"
+holds 'and is remembered no more' \
+  [ "$(find "$ROOMS_RUN/rooms-front/remembered" -type f -size +0 -printf %f)" = eve ]
+setting GUESTS yes
+echo 'gina:{PLAIN}p' >>"$passwords"
+room_verb user remove gina
+says 'a guest' 0 'no password for gina any more, in '
+holds 'has left with that' [ "$(grep -c "aren't in its file" "$work/err")" = 0 ]
+setting GUESTS no
 setting PASSWORDS file
 # So are those of a room on a machine without its front end, where whoever has one isn't known.
 setting BEHIND yes

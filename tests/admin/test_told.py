@@ -315,17 +315,34 @@ class Moved(Passwords):
                 self.assertEqual(passwords.room_of(file), name)
 
 
+class Interruptions(unittest.TestCase):
+    def test_what_was_done_is_told(self) -> None:
+        self.addCleanup(setattr, report, "_did", None)
+        report.did("what nobody asks for")
+        self.assertEqual(str(report.interrupted()), "interrupted")
+        report.nothing_yet()
+        self.assertEqual(str(report.interrupted()), "interrupted: nothing was changed")
+        report.did("the list is set")
+        report.did("all is well")
+        self.assertEqual(str(report.interrupted()),
+                         "interrupted: this alone was done: the list is set; all is well")
+
+
 class Guests(unittest.TestCase):
     """Whom a directory has, and who has a password in a room's file."""
 
-    def look(self, in_file: str, has_guests: bool, is_over: bool = False) -> list[str]:
+    def look(self, in_file: str, has_guests: bool, is_over: bool = False, first: str = ""
+             ) -> list[str]:
         room = settings.Place(name="office", on="", passwords="directory", guests=has_guests)
         with tempfile.TemporaryDirectory() as root, unittest.mock.patch.multiple(
                 guests, Directory=unittest.mock.Mock(), doubled=lambda _asked, users: [
-                    one for one in sorted(users) if one.lower() in ("alice", "bob")]):
-            for place in (passwords.OLD, "/etc/rooms"):
-                os.makedirs(root + place)
-            pathlib.Path(root + passwords.old_of("office")).write_text(in_file, encoding="utf-8")
+                    one for one in sorted(users) if one.lower() in ("alice", "bob")]
+        ), unittest.mock.patch.object(passwords, "FOLDER", root + passwords.KEPT):
+            kept = pathlib.Path(root + passwords.KEPT)
+            for place in (kept, pathlib.Path(root + "/etc/rooms")):
+                place.mkdir(parents=True)
+            (kept / "rooms.htpasswd").write_text(in_file, encoding="utf-8")
+            (kept / "rooms.first").write_text(first, encoding="utf-8")
             pathlib.Path(root + guests.FILE).write_text(
                 "URI=ldap://directory.example\nBASE=dc=example\n", encoding="utf-8")
             if is_over:
@@ -345,6 +362,12 @@ class Guests(unittest.TestCase):
         self.assertTrue(told[0].startswith("eve, tim of office can't sign in any more"), told)
         self.assertEqual(self.look("alice:x\n", False), [])
         self.assertEqual(self.look("", False), [])
+
+    def test_a_first_password_lets_no_guest_in(self) -> None:
+        said = ("kim, lea of office can't sign in, whom the directory hasn't, by a first password: "
+                "rooms-admin user add gives guests another one")
+        self.assertEqual(self.look("", True, first="kim:x\nlea:x\n"), [said])
+        self.assertEqual(self.look("", False, first="kim:x\nbob:x\nlea:x\n"), [said])
 
     def test_nobody_has_two(self) -> None:
         for name in ("alice", "Alice", "BOB"):

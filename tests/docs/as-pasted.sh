@@ -4,7 +4,7 @@
 . "$here/lib/pasted.sh" || return
 
 paste_in "$(blocks people.md 'user add dana')"
-prints 'somebody joins' "a password for dana, in $file" \
+prints 'somebody joins' '+ sales,dana' "a password for dana, in $file" \
   'groups 2, members 5'
 bin/systemctl stop rooms
 gives 'she is in her group' 0 \

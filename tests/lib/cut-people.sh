@@ -65,6 +65,11 @@ afresh() {
   cp -a root.kept root
   unit start
 }
+# Whoever presses a key is told what the verb has done, or that it has done nothing.
+is_told() { # NAME DONE
+  [ "$how" = KILL ] || holds "$1: what was done is told" \
+    grep -q "interrupted: ${2:+this alone was done: }${2:-nothing was changed}\$" "$work/err"
+}
 nothing_else() { # NAME
   holds "$1: nothing else is left" \
     [ -z "$(find "${web%/*}" "${passwords%/*}" -name '.*')$(ls -A "$TMPDIR")" ]

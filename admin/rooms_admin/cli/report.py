@@ -44,8 +44,30 @@ def say(text: str) -> None:
     print(f"{prog}: {plain(text)}", file=sys.stderr, flush=True)
 
 
+# What a verb that says so has changed by now; nothing is known of another one.
+_did: list[str] | None = None
+
+
+def nothing_yet() -> None:
+    """From here on whoever interrupts the verb is told what was done before."""
+    global _did
+    _did = []
+
+
+def did(what: str) -> None:
+    if _did is not None:
+        _did.append(what)
+
+
+def interrupted() -> Interrupted:
+    if _did is None:
+        return Interrupted("interrupted")
+    return Interrupted("interrupted: " + (f"this alone was done: {'; '.join(_did)}" if _did else
+                                          "nothing was changed"))
+
+
 def _interrupt(_number: int, _frame: types.FrameType | None) -> None:
-    raise Interrupted("interrupted")
+    raise interrupted()
 
 
 _ENDING = (signal.SIGTERM, signal.SIGINT, signal.SIGHUP)

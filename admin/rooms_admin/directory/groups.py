@@ -214,10 +214,11 @@ class Run:
             coming, going, others = compare(now, wanted, groups)
             if self.dry:
                 show(Change(now, coming, going))
-                return
             if not coming and not going:
                 return
             self.guard(going, len(others | wanted), most)
+            if self.dry:
+                return
         self.lock()
         self.change(wanted, groups, most)
 

@@ -57,19 +57,23 @@ def look(root: str, where: settings.Directory, rooms: Iterable[Place]) -> list[s
     said = []
     asked = Directory(where)
     for one in rooms:
-        users = passwords.users(root + passwords.file_of(root, one.name))
+        kinds = passwords.kinds(root + passwords.file_of(root, one.name))
+        users = {user for user, is_first in kinds.items() if not is_first}
         try:
-            found = doubled(asked, users)
+            found = doubled(asked, kinds)
         except Refused:
             raise
         except Stop as stop:
             raise Refused(f"no directory: {stop}") from stop
         if one.guests and found:
             raise Refused(told(one, found))
-        if not one.guests and len(found) < len(users):
-            said.append(f"{', '.join(sorted(users - set(found)))} of {one.name} can't sign in any "
-                        "more, whom the directory hasn't: GUESTS=yes lets them in "
-                        "(docs/directory.md)")
+        if (out := users - set(found)) and not one.guests:
+            said.append(f"{', '.join(sorted(out))} of {one.name} can't sign in any more, whom the "
+                        "directory hasn't: GUESTS=yes lets them in (docs/directory.md)")
+        if first := kinds.keys() - users - set(found):
+            said.append(f"{', '.join(sorted(first))} of {one.name} can't sign in, whom the "
+                        "directory hasn't, by a first password: rooms-admin user add gives guests "
+                        "another one")
     return said
 
 

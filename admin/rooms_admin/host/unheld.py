@@ -59,7 +59,7 @@ def go_on() -> None:
 def _interrupt_once(_number: int, _frame: types.FrameType | None) -> None:
     """Who presses the key again doesn't disturb what is put right."""
     report.ignore_signals()
-    raise report.Interrupted("interrupted")
+    raise report.interrupted()
 
 
 def _keep(said: int, marks: int) -> None:

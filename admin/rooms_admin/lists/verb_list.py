@@ -11,7 +11,7 @@ import difflib
 import os
 from dataclasses import dataclass
 
-from ..cli import words
+from ..cli import report, words
 from ..room import in_parts, names, private_server, program, server, settings
 from . import dump, naming, strangers
 from ..people import joining, look, members
@@ -120,9 +120,11 @@ def _set(room: Room, path: bytes, which: str, text: bytes, is_dry: bool) -> int:
         if _one(members.printed(room, "dump"), path, which).own != before:
             raise Refused(f"changed meanwhile: somebody has set the list of {names.shown(path)}, "
                           "which stays")
-        status, out, said = program.run(room, ["reset", room.file, path, which], text)
-        if status != 0:
-            raise Stop(f"not set: {said or out.decode(errors='replace').strip()}")
+        with report.signals_wait():
+            status, out, said = program.run(room, ["reset", room.file, path, which], text)
+            if status != 0:
+                raise Stop(f"not set: {said or out.decode(errors='replace').strip()}")
+            report.did("the list is set")
     print("done")
     return 1 if ignored else 0
 
@@ -132,6 +134,7 @@ def run(given: argparse.Namespace) -> int:
     which = "sacl" if given.sacl else "dacl"
     text = b""
     if given.what == "set":
+        report.nothing_yet()
         text = asked.list_text()
     os.umask(0o077)
     os.chdir("/")

@@ -9,7 +9,7 @@ from ..passwords import passwords
 from ..lists import dump
 from . import known
 from ..cli.report import Refused, Stop
-from ..room.http_client import Caller, client
+from ..room.http_client import Caller, client, is_here
 
 
 def rows(path: str) -> Iterator[dump.Object | dump.Pair]:
@@ -25,7 +25,7 @@ def _borne(path: str) -> set[str]:
 
 def _known_here(conf: str) -> set[str]:
     """Who has a password, or is in a group by now. Of a room elsewhere nobody is known."""
-    if "://" in conf:
+    if not is_here(conf):
         return set()
     room = settings.room(conf)
     last = known.kept(room)

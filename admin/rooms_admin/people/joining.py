@@ -4,7 +4,7 @@ from collections.abc import Iterator
 from contextlib import ExitStack, contextmanager
 from dataclasses import dataclass
 
-from ..cli import alike
+from ..cli import alike, report
 from ..host import locks
 from ..room import server
 from . import known
@@ -49,8 +49,10 @@ def make(room: Room, change: Change) -> set[Pair]:
     """Who is there then, whom somebody else may have changed too."""
     if change.is_none:
         return change.before
-    with server.at_rest(room):
-        return known.change(room, change.before, change.joins, change.leaves)
+    with server.at_rest(room), report.signals_wait():
+        after = known.change(room, change.before, change.joins, change.leaves)
+        report.did("who is in which group has changed")
+        return after
 
 
 def counted(members: set[Pair]) -> str:

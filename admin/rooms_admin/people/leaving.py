@@ -5,12 +5,12 @@ import os
 from collections.abc import Iterator
 from dataclasses import dataclass
 
-from ..cli import alike
-from ..passwords import passwords
+from ..cli import alike, report
+from ..passwords import passwords, remembered
 from ..backup import dates
 from ..lists import dump, naming, would
 from . import handing_over, joining, known, look, members, offered
-from ..cli.report import Refused, Stop, line, say
+from ..cli.report import Interrupted, Refused, Stop, line, say
 from ..room.http_client import Caller
 from ..room.settings import Room
 from ..lists.dump import Object
@@ -39,7 +39,9 @@ def _shut_out(asked: Leaving) -> None:
     if asked.is_dry:
         print(f"would: no password for {asked.name} any more, in {asked.file}")
         return
-    passwords.change(asked.place, {asked.name: None})
+    with report.signals_wait():
+        passwords.change(asked.place, {asked.name: None})
+        report.did(f"{asked.name} has no password any more")
     print(f"no password for {asked.name} any more, in {asked.file}", flush=True)
 
 
@@ -93,6 +95,8 @@ def leave(asked: Leaving) -> int:
         _shut_out(asked)
         done = f"{asked.name} has no password any more"
     if not asked.is_dry:
+        # Also of whom a directory has shut out.
+        remembered.forget([asked.name])
         dates.tell(room, "forget", asked.name)
     with joining.locked(room, "" if asked.is_dry else done, not asked.is_dry) as newest_one:
         groups, dumped = look.tried(room, "groups-out", "dump", may_stop=not asked.is_dry)
@@ -108,7 +112,8 @@ def leave(asked: Leaving) -> int:
             return 1
         _tell_last(asked, room, lists)
         _leave_groups(asked, room, before, newest_one)
-    if not room.has_passwords:
+    # A guest's was in the file.
+    if not room.has_passwords and not (done and room.lets_guests):
         say(f"passwords of {asked.place} aren't in its file: {asked.name} has to leave where they "
             "are too")
     for one in naming.without_parts(found):
@@ -124,6 +129,8 @@ def _tell_last(asked: Leaving, room: Room, lists: bytes) -> None:
                            or one.path == b"/"), b"/", b"/", [b"look /"])
     try:
         who = {one.user for one in would.answered(room, root) if "C" in one.rights} if root else ()
+    except Interrupted:
+        raise
     except Stop as stop:
         say(str(stop))
         return

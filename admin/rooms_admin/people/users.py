@@ -75,8 +75,11 @@ def _make(room: Room, change: joining.Change, newest_one: Newest) -> None:
 
 def _give(place: str, asked: Words, text: str) -> bool:
     """Whether there was no password before."""
-    had = passwords.change(place, {asked.name: passwords.hashed(text)}, is_first=asked.is_first)
-    what = f"a {'new ' if had else ''}{'first ' if asked.is_first else ''}password"
+    line = passwords.hashed(text)
+    with report.signals_wait():
+        had = passwords.change(place, {asked.name: line}, is_first=asked.is_first)
+        what = f"a {'new ' if had else ''}{'first ' if asked.is_first else ''}password"
+        report.did(f"{asked.name} has {what}")
     file = passwords.password_files(place)[0]
     print(f"{what} for {asked.name}, in {passwords.first_of(file) if asked.is_first else file}",
           flush=True)
@@ -137,7 +140,9 @@ def _give_all(place: str, room: Room | None, asked: Words, wanted: dict[str, set
         return bool(new)
     made = {user: passwords.chosen() for user in new}
     lines = {user: passwords.hashed(text) for user, text in made.items()}
-    has |= passwords.change(place, {**lines}, keeps=True, is_first=asked.is_first)
+    with report.signals_wait():
+        has |= passwords.change(place, {**lines}, keeps=True, is_first=asked.is_first)
+        report.did(f"{len(set(made) - has)} users have a password")
     for user, text in made.items():
         if user not in has:
             print(f"{user}: {text}", flush=True)

@@ -68,6 +68,8 @@ def run(given: argparse.Namespace) -> int:
         raise Refused("bad arguments: --new, --force and --dry-run are for a FILE")
     if given.file and given.json:
         raise Refused("bad arguments: --json goes with no FILE")
+    if given.file:
+        report.nothing_yet()
     os.umask(0o077)
     os.chdir("/")
     room = settings.room(given.room)

@@ -23,7 +23,7 @@ directory or sessions have them) and 'groups'."""
 import argparse
 import os
 
-from ..cli import words
+from ..cli import report, words
 from ..host import unheld
 from ..room import names, published, settings
 from ..passwords import passwords
@@ -157,6 +157,8 @@ def run(given: argparse.Namespace) -> int:
     """What is asked on a terminal is asked before anything is locked, and from then on whoever
     sits there holds nobody up."""
     asked = read_words(given)
+    if asked.what != "list":
+        report.nothing_yet()
     wanted = users.rows(asked.file) if asked.file else {}
     os.umask(0o077)
     os.chdir("/")

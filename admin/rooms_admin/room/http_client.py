@@ -259,8 +259,8 @@ def client(word: str, caller: Caller, next_step: str, ends_by_500: bool) -> Clie
     if not is_here(word):
         return Client(word or "office", caller, next_step, ends_by_500)
     if caller.user or caller.config:
-        raise Refused(f"bad arguments: nobody asks for a password at the room {word} itself: --as "
-                      "says who asks, or take its address")
+        raise Refused(f"bad arguments: nobody asks for a password at the room {word or 'office'} "
+                      "itself: --as says who asks, or take its address")
     room = settings.room(word)
     return Client(room.address, caller, next_step, ends_by_500, room.listens, room.door,
                   most_of(word))

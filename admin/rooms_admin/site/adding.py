@@ -8,6 +8,7 @@ import time
 from ..host import changes
 from ..room import forms, names, published, settings
 from . import apply, password_files, ports, setting_up, template
+from ..cli import report
 from ..cli.report import Refused, Stop
 from ..host.changes import Changes
 
@@ -130,6 +131,7 @@ class NewRoom:
         text = setting_up.room_text(made.root, self.name, self.port, self.title, self.backups,
                                     self.host, self.behind)
         fresh = password_files.missing(made.root, self.name)
+        report.nothing_yet()
         try:
             # What the web interface was told of another room of this name.
             made.remove_folder(f"{published.PLACE}/{self.name}")
@@ -149,6 +151,7 @@ class NewRoom:
             self._take_back(fresh)
             raise
         made.forget()
+        report.did(f"nginx has a place for {self.name}")
         self._start()
         if not made.dry:
             self._tell()
@@ -180,6 +183,7 @@ class NewRoom:
             self.owner, self.group, check=False)
         if status:
             raise Stop(f"no room: {said}")
+        report.did(f"{self.file} is made")
 
     def _start(self) -> None:
         """From here on nothing is taken back: the same steps can be done by hand."""
@@ -188,7 +192,10 @@ class NewRoom:
             return
         # A room of this name may have failed too often to be started by hand.
         changes.run("systemctl", "reset-failed", unit, check=False)
-        status, said = changes.run("systemctl", "enable", "--now", unit, timer, check=False)
+        with report.signals_wait():
+            status, said = changes.run("systemctl", "enable", "--now", unit, timer, check=False)
+            if not status:
+                report.did(f"{unit} and {timer} are started")
         # A server that finds a fault exits at once, and systemd keeps restarting it.
         time.sleep(1)
         if status or changes.run("systemctl", "is-active", unit, check=False)[1] != "active":

@@ -239,7 +239,8 @@ def look_at_guests(made: Changes, chosen: str) -> None:
     if chosen or made.root or not os.path.isdir(made.root + os.path.dirname(guests.FILE)):
         return
     if rooms := _new_guests(made.root):
-        guests.look(made.root, settings.directory(guests.FILE), rooms)
+        for line in guests.look(made.root, settings.directory(guests.FILE), rooms):
+            print(line)
 
 
 def _try_apache(where: settings.Directory, chosen: str) -> None:
