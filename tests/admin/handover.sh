@@ -92,7 +92,14 @@ holds 'the log has the rest' [ "$(wc -l <log2)" = 3 ]
 hands --as alice --room "$room" lists bob alice
 told 'the same once more' 1 "given 0, of others by now $((count - 3)), left out 3"
 hands --as bob --room "$room" lists bob newcomer
-told 'what only he may give' 1 'given 2,' "newcomer owns nothing and is in no group, as lists says"
+told 'to nobody' 2 'no heir: nobody is called newcomer; --new gives to a new user'
+hands --as bob --dry-run --room "$room" lists bob alcie
+told 'to a mistyped name' 2 'no heir: nobody is called alcie; did you mean alice?; --new gives'
+hands --as bob --room "$room" lists bobb alice
+told 'of a mistyped name' 1 \
+  'nobody: bobb owns nothing and is in no group, as lists says; did you mean bob?'
+hands --new --as bob --room "$room" lists bob newcomer
+told 'what only he may give' 1 'given 2,'
 stop_server
 dumped >after
 sed -e 's/^\(document\|folder\) bob /\1 alice /' \
@@ -108,10 +115,25 @@ stop_server
 dumped >lists
 start_server F 100000 || return
 room=http://127.0.0.1:$port
-hands --as alice --room "$room" lists 'OFFICE\bob' 'OFFICE\nancy'
+hands --new --as alice --room "$room" lists 'OFFICE\bob' 'OFFICE\nancy'
 told 'all of a name with a backslash' 0 'given 1, of others by now 0, left out 0'
+# A document in parts is one.
+for name in plan plan~rooms-part-0001 plan~rooms-part-0002 other~rooms-part-0001; do
+  asked 201 alice PUT "/doc/$name" x
+  asked 204 alice PUT "/attr/$name" '{"owner":"gil","group":"staff"}'
+done
+stop_server
+dumped >lists
+start_server F 100000 || return
+room=http://127.0.0.1:$port
+hands --dry-run --as alice --room "$room" lists gil alice
+told 'a document in parts' 0 'would: /other\~rooms-part-0001' 'would: /plan' 'would be given 2,'
+holds 'has no line for a part' [ "$(grep -c '^would: ' "$work/out")" = 2 ]
+hands --as alice --room "$room" lists gil alice
+told 'is given with them' 0 'given 2, of others by now 0, left out 0'
 stop_server
 dumped >after
+holds 'all of them' [ "$(grep -c 'document alice staff 1 /plan' after)" = 3 ]
 holds 'is of another one' grep -qxF 'document OFFICE\nancy staff 1 /office' after
 hands --user alice --room http://rooms.example lists bob alice
 told 'a password without TLS' 2 'no TLS: rooms.example would get the password'

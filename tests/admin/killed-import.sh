@@ -28,7 +28,7 @@ hand_over() {
   }
   before() {
     listed "$giver" >lists
-    words=(handover --as root --room "$room" lists "$giver" "$taker")
+    words=(handover --new --as root --room "$room" lists "$giver" "$taker")
   }
   again() {
     local path given others

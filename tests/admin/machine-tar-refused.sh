@@ -62,14 +62,6 @@ altered 'a pipe' 'no ordinary file' 'mkfifo etc/rooms/pipe'
 altered 'a program with rights' 'no ordinary file' 'chmod u+s etc/rooms/office.conf'
 altered 'a name with a line end' 'not ours' 'echo x >"etc/rooms/a
 b"'
-altered 'a certificate that is none' 'is no certificate and no key' 'echo x >etc/ssl/rooms.pem'
-altered 'a block without an end' 'is no certificate and no key' 'sed -i \$d etc/ssl/rooms.pem'
-altered 'a block of another kind' 'is no certificate and no key' \
-  'sed -i s/CERTIFICATE/SCRIPT/ etc/ssl/rooms.pem'
-altered 'a block without DER' 'is no certificate and no key' \
-  'sed -i s/MAMCAQE/MAQCAQE/ etc/ssl/rooms.pem'
-altered 'a block with a command' 'is no certificate and no key' \
-  'sed -i "2i \$(id)" etc/ssl/private/rooms.key'
 altered 'a place that is none' 'names the certificate' \
   'echo /etc/ssl/../passwd >machine/certificates'
 altered 'a place that is no path' 'names the certificate' 'echo etc/ssl/x >machine/certificates'
@@ -239,6 +231,23 @@ done
 named 'what the machine believes' etc/ssl/certs/ca-certificates.crt 'mkdir etc/ssl/certs
   cp etc/ssl/{rooms.pem,certs/ca-certificates.crt}
   echo /etc/ssl/certs/ca-certificates.crt >>machine/certificates'
+
+# What is in the place of a certificate or a key and is neither doesn't come back.
+neither() { # NAME COMMAND: which is run in the tree
+  rm -rf tree anew
+  cp -Rp good tree
+  cp -Rp fresh anew
+  (cd tree && eval "$2")
+  pack neither.tar
+  brings anew "$PWD/neither.tar"
+  says "$1" 0 ": certificates and keys alone come back there, and it is neither"
+  holds "$1: one is left out" [ "$(find anew/etc/ssl -type f | wc -l)" = 1 ]
+}
+neither 'a certificate that is none' 'echo x >etc/ssl/rooms.pem'
+neither 'a block without an end' 'sed -i \$d etc/ssl/rooms.pem'
+neither 'a block of another kind' 'sed -i s/CERTIFICATE/SCRIPT/ etc/ssl/rooms.pem'
+neither 'a block without DER' 'sed -i s/MAMCAQE/MAQCAQE/ etc/ssl/rooms.pem'
+neither 'a block with a command' 'sed -i "2i \$(id)" etc/ssl/private/rooms.key'
 
 # A certificate is written anew: without what stands round it, where certificates are, and as no
 # program. Elsewhere it doesn't come back, and nothing that does is a program.

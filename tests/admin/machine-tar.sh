@@ -119,6 +119,34 @@ holds 'its link is one' \
   [ "$(readlink new/etc/letsencrypt/live/x/privkey.pem)" = ../../archive/x/privkey1.pem ]
 rm -rf new bot
 
+# What OpenSSL takes is taken. What no restore takes is told when it is kept, and keeps no other
+# file from coming back.
+cp -Rp old odd
+{ printf '\357\273\277'; block CERTIFICATE E | sed 's/^MAM/ MAM/'; block 'PUBLIC KEY' I; } \
+  >odd/etc/ssl/rooms.pem
+sed -i 's#/etc/ssl/rooms#/etc//ssl/rooms#' odd/etc/rooms/site
+saves odd odd.tar
+holds 'a certificate with a mark, a blank and a key' [ "$status" = 0 -a ! -s "$work/out" ]
+echo mine >'odd/etc/rooms/a\b'
+truncate -s 45M odd/etc/rooms/rooms.deb
+echo none >odd/etc/ssl/private/rooms.key
+saves odd odd.tar
+cat >wanted.odd <<'END'
+it lacks 'etc/rooms/a\\b', whose name isn't plain text
+it lacks /etc/rooms/rooms.deb, which is too large: move it elsewhere
+no restore takes /etc/ssl/private/rooms.key, which is no certificate and no key in PEM
+END
+{ cat "$work/out"; echo; } >got
+same 'what no restore takes is told' got wanted.odd
+rm -rf new
+cp -Rp fresh new
+brings new "$PWD/odd.tar"
+says 'and left out' 0 'left out: /etc/ssl/private/rooms.key: certificates and keys alone'
+block CERTIFICATE E >wanted.odd
+same 'a certificate comes back' new/etc/ssl/rooms.pem wanted.odd
+holds 'and all else' grep -qx KEEP=7 new/etc/rooms/office.conf
+rm -rf new odd
+
 mkdir good
 tar -xpf machine.tar -C good
 cp -Rp fresh new

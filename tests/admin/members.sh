@@ -75,6 +75,9 @@ for wrong in 'no --add nor --drop;user change dana;--add GROUPS or --drop GROUPS
   'no name;user change dana --add a/b;'"'a/b' can't be the name of a user or a group" \
   "no group;user change dana --add ops;no group: nobody is in ops, and --new makes it" \
   'a mistyped one;user change dana --add salse;makes it; did you mean sales?' \
+  'a mistyped one to leave;user change dana --drop salse;nobody is in salse; did you mean sales?' \
+  'the same beside another;user change dana --add sales --drop clreks;did you mean clerks?' \
+  'and only looked at;user change dana --drop salse --dry-run;did you mean sales?' \
   'a mistyped user;user change dnaa --add sales;is in no group; did you mean dana?' \
   'nobody;user change zoe --add sales;is in no group; somebody new joins by user add'; do
   IFS=';' read -r name line text <<<"$wrong"
@@ -269,7 +272,6 @@ unit_rests 'goes on to rest'
 # Who has left a group is in it again by a backup that is put in the room's place.
 mkdir backups/then
 cp office/F* backups/then
-as_user "$rooms" dump "$PWD/office/F" >backups/then/lists.txt
 room_verb user change carol --drop clerks
 ended_well 'somebody leaves a group'
 room_verb restore --dry-run "$PWD/backups/then"

@@ -127,11 +127,25 @@ if has htpasswd; then
   echo secret >typed
   typed=typed room_verb user add zoe --groups clerks
   ended_well 'somebody joins'
+  holds 'into which group is said' grep -qx -- '+ clerks,zoe' "$work/out"
   holds 'who can be chosen at once' grep -q '"eve","zoe"\]' "$web/people.json"
   room_verb user remove zoe
   ended_well 'somebody leaves'
   holds 'out of which groups is said' grep -qx -- '- clerks,zoe' "$work/out"
   people_are 'who can be chosen no more' "$few"
+
+  # Whoever leaves a room whose lists fit into no memory is in no group any more.
+  typed=typed room_verb user add zoe --groups clerks
+  printf '%s\n' '#!/bin/bash' '[ "$1" != dump ] || { echo "fault: memory" >&2; exit 1; }' \
+    "exec $rooms \"\$@\"" >prog
+  chmod 755 prog
+  setting PROGRAM "$PWD/prog"
+  room_verb user remove zoe
+  says 'lists that fit into no memory' 1 \
+    "what else names zoe isn't known: dump failed: fault: memory"
+  holds 'keep nobody in a group' grep -qx -- '- clerks,zoe' "$work/out"
+  people_are 'nor among those who can be chosen' "$few"
+  setting PROGRAM "$stand/bin/rooms"
 
   # Many join at once: the server stops once, and whoever has no password gets one.
   starts

@@ -41,6 +41,11 @@ told 'several' 0 'with DRIVE=yes, TITLE=Our office = ours' \
   'it counts after: rooms-admin setup; systemctl restart rooms-door@office'
 is 'of which one is new' office.conf "${first[@]}" KEEP=14 'TITLE=Our office = ours' HOURS=0 \
   DRIVE=yes
+sets PEOPLE=no
+told 'no names for users' 0 'it counts after: rooms-admin people; rooms-admin mine'
+sets PEOPLE=names
+told 'and names again' 0 'with PEOPLE=names'
+sed -i /^PEOPLE=/d $conf
 sets LIMIT=300
 told 'a limit' 0 'it counts after: systemctl restart rooms-full@office'
 sets SEARCH=yes

@@ -335,9 +335,21 @@ if has rsync; then
   rm -rf there
   : >there
   stands
-  says 'a place that is no folder' 1 "doesn't get the copy"
+  says 'a place that is no folder' 1 'no folder: '
   rm there
+  stands
+  says 'one that is not there' 1 "no folder: $PWD/there, of STANDBY in $PWD/conf, isn't there"
+  holds 'and is not made' is_missing there
   mkdir there
+  echo "UUID=none $(realpath there) ext4 nofail 0 2" >root/etc/fstab
+  put kept-here
+  stands
+  says 'one whose disk is not mounted' 1 "so $PWD/there, of STANDBY, isn't on its disk"
+  holds 'nothing is written below its mount point' [ -z "$(ls -A there)" ]
+  holds 'and the copy is kept here' has_document backups/conf/standby kept-here
+  stands_dry
+  says 'as is told before' 0 'not mounted: '
+  rm root/etc/fstab
   stands
   unit stop
   cp -Rp office lost

@@ -15,7 +15,7 @@ case \$1 in
   groups-out)
     touch '$PWD/looks'
     while [ -e '$PWD/wait' ]; do sleep 0.05; done
-    printf '%s\n' group,user staff,alice staff,bob ;;
+    printf '%s\n' group,user sales,alice staff,alice staff,bob ;;
   groups) touch '$PWD/changed' ;;
   --version) echo 'rooms 9.9.9' >&2 ;;
 esac

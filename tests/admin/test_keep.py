@@ -13,7 +13,7 @@ import unittest.mock
 sys.path.insert(0, os.path.join(os.path.dirname(__file__), "..", "..", "admin"))
 
 from test_backups import Folder  # noqa: E402
-from rooms_admin.backup import backups, tidying  # noqa: E402
+from rooms_admin.backup import backups, hours, tidying  # noqa: E402
 from rooms_admin.backup.backups import Backup  # noqa: E402
 from rooms_admin.cli.report import Refused, Stop  # noqa: E402
 from rooms_admin.directory import groups  # noqa: E402
@@ -126,6 +126,23 @@ class Restored(Folder):
                 known.change(self.room, {alice, bob}, set(), {bob})
             self.assertEqual(offered.nightly(self.room, lists, place), [])
             self.assertIsNone(run.known())
+
+
+class Hour(Folder):
+    def test_its_name_says_when_it_was_begun(self) -> None:
+        """Another machine may take long to get it: what was saved meanwhile isn't in it."""
+        self.room.hours = 2
+        source = f"{self.home}/standby"
+        os.mkdir(source, 0o700)
+        os.makedirs(backups.folder(self.room))
+        with open(f"{source}/{self.room.base}", "wb"):
+            pass
+        began = time.time() - 1800
+        with unittest.mock.patch.object(hours, "SPARE", 0):
+            hours.keep(self.room, source, began)
+        made = hours.found(self.room).backups
+        self.assertEqual([one.name for one in made],
+                         [time.strftime("%F.%H%M%S", time.localtime(began))])
 
 
 class Whole(Folder):

@@ -23,7 +23,7 @@ from rooms_admin.cli import report, shared
 from rooms_admin.host import locks, safe
 from rooms_admin.room import http_client, names, published, server
 from rooms_admin.passwords import passwords
-from rooms_admin.lists import end_dates
+from rooms_admin.lists import end_dates, review
 from rooms_admin.people import ended, further_down, known, offered, users
 from rooms_admin.room.settings import Room
 
@@ -358,6 +358,17 @@ while not select.select([sys.stdin], [], [], 0)[0]:
         bad += 1
 print(bad, "bad")
 """
+
+
+class Large(unittest.TestCase):
+    def test_a_document_stands_for_its_parts(self) -> None:
+        names = ["/big", "/big~rooms-part-0001", "/big~rooms-part-0002", "/of~rooms-part-0001"]
+        rows = [review.Row(name, "document", user, "r", False)
+                for name in names for user in ("bob", "eve")]
+        self.assertEqual({row.path for row in review.without_parts(rows)}, {names[0], names[3]})
+        rows[3] = rows[3]._replace(rights="rw")
+        self.assertEqual([(row.path, row.rights) for row in review.without_parts(rows)[2:4]],
+                         [(names[1], "r"), (names[1], "rw")])
 
 
 class Listed(unittest.TestCase):

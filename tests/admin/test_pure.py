@@ -398,7 +398,7 @@ class Words(unittest.TestCase):
             given = self.read("restore", *typed)
             self.assertEqual((given.backup, given.start), ("latest", True))
         given = self.read("user", "add", "eve", "--groups", "sales,staff")
-        self.assertEqual((given.what, given.name, given.groups), ("add", "eve", "sales,staff"))
+        self.assertEqual((given.what, given.name, given.groups), ("add", "eve", ["sales,staff"]))
         given = self.read("setup", "--dry-run", "--tls", "one.pem", "one.key", "--destdir", "/x")
         self.assertEqual((given.tls, given.destdir), (["one.pem", "one.key"], "/x"))
         given = self.read("export", "/letters", "--backup", "latest", "out", "-r", "hr")
@@ -435,7 +435,7 @@ class Words(unittest.TestCase):
     def test_dashes(self) -> None:
         self.assertEqual(self.read("user", "add", "-odd").name, "-odd")
         self.assertEqual(self.read("user", "add", "--", "--groups").name, "--groups")
-        self.assertEqual(self.read("user", "add", "-odd", "--first", "--groups", "a").groups, "a")
+        self.assertEqual(self.read("user", "add", "-odd", "--first", "--groups", "a").groups, ["a"])
         got = self.read("restore", "--", "--start")
         self.assertEqual((got.backup, got.start), ("--start", False))
 

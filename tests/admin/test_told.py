@@ -21,7 +21,7 @@ from rooms_admin.room import (fullness, http_client, names, published, server, s
 from rooms_admin.passwords import password_rules, passwords
 from rooms_admin.lists import dump
 from rooms_admin.people import users, verb_user
-from rooms_admin.directory import directory, guests
+from rooms_admin.directory import guests
 from rooms_admin.machine_tar import machine
 from rooms_admin.site import password_files, template
 from rooms_admin.check import finding, verb_check, verb_tell
@@ -318,21 +318,26 @@ class Moved(Passwords):
 class Guests(unittest.TestCase):
     """Whom a directory has, and who has a password in a room's file."""
 
-    def look(self, in_file: str, has_guests: bool) -> list[str]:
+    def look(self, in_file: str, has_guests: bool, is_over: bool = False) -> list[str]:
         room = settings.Place(name="office", on="", passwords="directory", guests=has_guests)
-        where = settings.Directory()
-
-        def search(_asked: object, _base: str, _whole: bool, filter_: str, _wanted: list[str]
-                   ) -> list[directory.Entry]:
-            return [directory.Entry("", {"uid": [one]}) for one in ("alice", "bob")
-                    if f"(uid={one})" in filter_.lower()]
         with tempfile.TemporaryDirectory() as root, unittest.mock.patch.multiple(
-                directory.Directory, __init__=lambda asked, where: setattr(asked, "where", where),
-                quoted=staticmethod(str), search=search):
-            os.makedirs(root + os.path.dirname(passwords.old_of("office")))
-            with open(root + passwords.old_of("office"), "w", encoding="utf-8") as out:
-                out.write(in_file)
-            return guests.look(root, where, [room])
+                guests, Directory=unittest.mock.Mock(), doubled=lambda _asked, users: [
+                    one for one in sorted(users) if one.lower() in ("alice", "bob")]):
+            for place in (passwords.OLD, "/etc/rooms"):
+                os.makedirs(root + place)
+            pathlib.Path(root + passwords.old_of("office")).write_text(in_file, encoding="utf-8")
+            pathlib.Path(root + guests.FILE).write_text(
+                "URI=ldap://directory.example\nBASE=dc=example\n", encoding="utf-8")
+            if is_over:
+                return guests.back(root, [room])
+            return guests.look(root, settings.Directory(), [room])
+
+    def test_who_signs_in_again_is_told(self) -> None:
+        said = ("alice, eve, tim of office can sign in again, by passwords of before, and the "
+                "directory hasn't eve, tim; rooms-admin user remove keeps them out")
+        self.assertEqual(self.look("alice:x\neve:x\ntim:x\n", False, True), [said])
+        self.assertEqual(self.look("eve:x\n", True, True), [])
+        self.assertEqual(self.look("", False, True), [])
 
     def test_who_is_shut_out_is_told(self) -> None:
         told = self.look("alice:x\neve:x\ntim:x\n", False)
@@ -360,11 +365,18 @@ class Words(unittest.TestCase):
         """As they are typed."""
         return verb_user.read_words(words.read("user", verb_user, text.split()))
 
+    def test_groups_add_up(self) -> None:
+        self.assertEqual(self.typed("add bob --groups a --groups b,c").joins, ["a", "b", "c"])
+
+    def test_of_two_values_none_is_taken(self) -> None:
+        for text in ("list --room a --room b", "--room a list -r b", "add --file f --file=g"):
+            with self.assertRaisesRegex(Refused, "^bad arguments: --(room|file) stands twice"):
+                self.typed(text)
+
     def test_options_stand_anywhere(self) -> None:
         for given in ("add newbie --groups sales", "add --groups sales newbie",
                       "-r office add --groups sales newbie",
-                      "add newbie --groups sales --room office",
-                      "--room hr add newbie -r office --groups sales"):
+                      "add newbie --groups sales --room office"):
             self.assertEqual(self.typed(given),
                              users.Words("add", "newbie", "office", joins=["sales"]), given)
         self.assertEqual(self.typed("add x --groups a,b").joins, ["a", "b"])

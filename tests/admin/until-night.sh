@@ -100,6 +100,19 @@ rm "$stand/no-start"
 room_verb until
 ended_well 'the next run'
 unit_runs 'starts it'
+
+# A backup in the room's place brings no access back that is over.
+sets alice /given list:a A:fd:eve:rxtc "$(ends "$over" read u.eve alice)"
+mkdir then
+cp office/F* then
+room_verb restore --dry-run --start "$PWD/then"
+says 'what a restore would do' 0 "would take back: /given: read of eve, until $over, asked by alice"
+cksum then/F* >before
+room_verb restore --start "$PWD/then"
+says 'a restore' 0 "taken back: /given: read of eve, until $over, asked by alice"
+asked 'lets nobody in by what is over' 403 eve GET /folder/given
+cksum then/F* >got
+same 'the backup is as it was' got before
 verb until --other "$PWD/office.conf"
 says 'an unknown word' 2 'bad arguments'
 exec 8<>run/.rooms-admin/rooms

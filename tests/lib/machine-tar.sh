@@ -15,9 +15,9 @@ saves() { # FOLDER TAR
   rm -f "$2"
   PATH=$PWD/bin:$PATH ROOMS_ROOT=$PWD/$1 python3 -IBc 'import sys
 sys.path.insert(0, sys.argv[1])
-from rooms_admin.machine_tar import machine
+from rooms_admin.machine_tar import machine_tar
 from rooms_admin.room import program
-print("\n".join(machine.save(sys.argv[3], program.version_of(sys.argv[2]))), end="")' \
+print("\n".join(machine_tar.save(sys.argv[3], program.version_of(sys.argv[2]))), end="")' \
     "$repo/admin" "$rooms" "$2" >"$work/out" 2>"$work/err"
   status=$?
 }

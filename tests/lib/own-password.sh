@@ -59,7 +59,8 @@ no_tries() { rm -f "$tries"/*; }
 # so the limit by address is tried where it is wanted alone.
 start_own() { # NAME ENTRY ..
   chmod 755 "$work" .
-  mkdir -p run/rooms-own-password
+  mkdir -p run/rooms-own-password run/rooms-front
+  ln -s ../../remembered run/rooms-front/remembered
   install -d -m 700 -o "$keeper" "$tries"
   : >rooms.htpasswd
   open_room F

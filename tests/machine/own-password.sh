@@ -36,6 +36,7 @@ is 'a wrong one' 403 "$(changes 'alice:walnuts in december' wrong 'gravel under 
 inside "time -p $(changes 'alice:walnuts in december' 'walnuts in december' 'gravel under bridges')"
 echo "  one change under systemd: $(sed -n 's/^real //p' "$work/err") s"
 is 'the new one counts' 200 "$web -u 'alice:gravel under bridges' http://127.0.0.1/folder/"
+is 'and the old one no more' 401 "$web -u 'alice:walnuts in december' http://127.0.0.1/folder/"
 does 'whose the files are then' 'cd /var/lib/rooms-passwords && stat -c "%n %U %G %a" . *'
 same 'they stay' "$work/out" wanted
 does 'another account' 'setpriv --reuid=nobody --regid=nogroup --clear-groups \
@@ -49,8 +50,7 @@ does 'what is counted of tries' 'cd /run/rooms-own-password/tries && touch -d "2
   systemd-tmpfiles --clean rooms.conf && ls'
 holds 'goes once it counts no more' eval 'grep -q . "$work/out" && ! grep -q older "$work/out"'
 does 'a verb of root' 'rooms-admin user remove alice --password'
-sleep 11
-is 'ends it' 401 "$web -u 'alice:gravel under bridges' http://127.0.0.1/"
+is 'ends it at once' 401 "$web -u 'alice:gravel under bridges' http://127.0.0.1/"
 does 'units with faults' 'systemctl list-units --state=failed --no-legend --plain "rooms*"'
 holds 'there are none' [ ! -s "$work/out" ]
 

@@ -43,6 +43,25 @@ else
   skip 'processes that go last' 'root may not have them do so here'
 fi
 
+# nginx that is killed comes again, however often. What root asks of it is as without that.
+does 'nginx is killed eight times' 'for n in {1..8}; do
+    systemctl kill --kill-whom=main -s KILL nginx || :; sleep 1.3
+  done'
+until_inside 'it comes again' "[ \"\$($web/can/?)\" = 200 ]"
+does 'another program of it' 'before=$(systemctl show nginx -p MainPID --value)
+  invoke-rc.d nginx upgrade && sleep 1 && main=$(systemctl show nginx -p MainPID --value) &&
+  [ "$main" != "$before" ] && systemctl kill --kill-whom=main -s KILL nginx'
+until_inside 'comes again too' "[ \"\$($web/can/?)\" = 200 ]"
+does 'a worker that is killed' 'before=$(systemctl show nginx -p MainPID --value)
+  kill -9 $(head -n 1 /proc/$before/task/$before/children | cut -d " " -f 1); sleep 0.5
+  [ "$(systemctl show nginx -p MainPID --value)" = "$before" ]'
+does 'nginx that is stopped stays so' \
+  'systemctl stop nginx; sleep 2; [ "$(systemctl is-active nginx)" = inactive ]'
+does 'and one that can not start' 'echo "nonsense;" >/etc/nginx/conf.d/ends.conf
+  ! systemctl start nginx && sleep 2 && [ "$(systemctl is-active nginx)" = failed ]'
+does 'until it can' 'rm /etc/nginx/conf.d/ends.conf; systemctl start nginx'
+until_inside 'nginx asks once more' "[ \"\$($web/can/?)\" = 200 ]"
+
 # A watch over the size that ends at once is started again and again, and hasn't failed: the night
 # tells it.
 does 'a watch that ends at once' 'unit=/etc/systemd/system/rooms-full@.service.d; mkdir -p $unit

@@ -302,13 +302,13 @@ else
   ask 'and sees no night from before' 403 '{"why":"now"}' carol:carol-word $night/doc/sales/offer
 fi
 
-# A password that is changed: the old one counts for as long as two memories of ten seconds.
+# A password that is changed: the old one counts for ten seconds, which nginx remembers it.
 as_root_of_directory ldappasswd -s new-word uid=bob,ou=people,dc=example,dc=net
 began=$SECONDS
 awaits 60 answers 401 bob:bob-word /doc/f
 took=$((SECONDS - began))
 holds "the old password is forgotten, after $took s" answers 401 bob:bob-word /doc/f
-holds 'within 20 s' [ "$took" -le 25 ]
+holds 'within 10 s' [ "$took" -le 14 ]
 ask 'the new one counts' 200 hello bob:new-word /doc/f
 
 # Tries are limited; who is remembered goes on.

@@ -194,12 +194,12 @@ wait "${slow[@]}" 2>/dev/null
 ask 'what was sent in part is not there' 404 '{"at":"/half","why":"no-such"}' bob:b /doc/half
 
 # Many at once: each gets its own answer.
-for n in {1..30}; do
+for n in {1..20}; do
   curl -s -o "many.$n" -u alice:a -X PUT --data-binary "$n" "http://127.0.0.1:$front/doc/many$n" &
   many[n]=$!
 done
 wait "${many[@]}"
-for n in {1..30}; do ask "one of many" 200 "$n" bob:b "/doc/many$n"; done
+for n in {1..20}; do ask "one of many" 200 "$n" bob:b "/doc/many$n"; done
 
 # The longest path.
 makes_deepest '' alice:a bob:b

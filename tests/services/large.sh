@@ -153,7 +153,7 @@ cp other tree/in/scan
 rooms_admin import tree /in
 told 'another one' 1 'made 0, replaced 0, there already 3, left out 2'
 rooms_admin import --replace tree /in
-told 'replaced' 1 'made 0, replaced 2, there already 2, left out 1'
+told 'replaced' 1 'made 0, replaced 1, there already 3, left out 1'
 rooms_admin export /in out
 told 'export' 0 'folders 2, documents 2, left out 0'
 holds 'comes out' cmp -s out/in/scan other

@@ -279,6 +279,32 @@ class Rows(Over):
         self.assertEqual(self.told(f"/door/closed/{'/'.join(way)}")[0], 200)
         self.assertLessEqual(max(self.room.connections), 5)
 
+    def test_folders_in_one_another(self) -> None:
+        """Whoever may add very many keeps nobody else waiting: what is in them is looked for from
+        further down, and it is told that it isn't here."""
+        way = tuple("d" * 300)
+        self.room.objects |= {way[:depth]: None for depth in range(1, 301)}
+        for depth in (99, 100, 180):
+            self.room.objects[*way[:depth], "plan"] = b""
+        deep = "/".join(way[:100])
+
+        def found(at: str) -> tuple[bool, list[int]]:
+            told = self.told(f"/door/find/{at}?plan")[1]
+            assert isinstance(told, dict)
+            return told["all"], [one["path"].count("/") for one in told["found"]]
+        self.assertEqual(found(""), (False, [100]))
+        self.assertEqual(found(deep), (False, [101, 181]))
+        self.assertEqual(found("/".join(way[:201])), (True, []))
+        told = self.told("/door/below/")[1]
+        assert isinstance(told, dict)
+        self.assertEqual(told["unlisted"], ["/" + deep])
+        told = self.told(f"/door/below/?{'/'.join(way[:150])}")[1]
+        assert isinstance(told, dict)
+        self.assertIn("/" + "/".join(way[:150]), [one["path"] for one in told["objects"]])
+        whole = zipfile.ZipFile(io.BytesIO(self.ask("GET", "/door/zip/d")[2]))
+        self.assertIn(f"d/{deep[2:]}/plan", whole.namelist())
+        self.assertEqual(whole.read("d/not in this ZIP.txt").decode(), f"/{deep}/d\r\n")
+
     def test_names_in_a_listing(self) -> None:
         names = ['","kind":"folder"},{"kind":"folder","name":"x', "a\\", '"', "ä\U0001f600",
                  "\\u0041", "]", "},{", "[]"]

@@ -33,6 +33,13 @@ class Dates(Dated):
             self.add(line("bob", "POST", "/move/f/a", 499, 9, "[" * many))
             self.assertEqual(self.rows(), {"a": {}, "b": {}, "g": {}})
 
+    def test_the_newest_from_no_further_down(self) -> None:
+        self.add(line("bob", "PUT", "/doc/f/a", 204, 3), line("bob", "PUT", "/doc/f/g/c", 204, 3))
+        for deepest, wanted in ((3, ["/f/g/c", "/f/a"]), (2, ["/f/a"])):
+            with mock.patch.object(walk, "DEEPEST", deepest):
+                self.assertEqual(self.latest(), wanted)
+                self.assertEqual(self.latest("f/g"), ["/f/g/c"])
+
     def test_without_names(self) -> None:
         for _ in range(2):
             self.add(line("bob", "PUT", "/doc/f/a", 204, 3))

@@ -1,8 +1,13 @@
 """What the door keeps of changes takes no more memory or time than it may have, whatever names and
 folders a room has, and tells nobody of documents that are closed to them."""
+import json
+import shutil
+import sqlite3
+import tempfile
 import time
 import tracemalloc
 import unittest
+from contextlib import closing
 from typing import Any
 from unittest import mock
 
@@ -11,6 +16,8 @@ from rooms_admin.room import in_parts
 from rooms_services.door.changes import latest, store
 from rooms_services.door.changes.store import Inside, Store
 from rooms_services.door.folders import walk
+from rooms_services.door.webdav.kept import Kept as Locked
+from rooms_services.door.webdav.tasks import Tasks
 
 MEGABYTE = 1 << 20
 # 250 letters in 255 bytes, each of which takes four in memory.
@@ -135,6 +142,46 @@ class InParts(Dated):
         with mock.patch.object(latest, "MOST_PARTS", 300):
             self.assertNotIn("size", self.newest("alice")[0])
         self.assertLess(len(self.room.seen), 200)
+
+
+class Left(unittest.TestCase):
+    """What somebody left in the door's files who had taken its place for a while."""
+
+    def setUp(self) -> None:
+        self.folder = tempfile.mkdtemp()
+        self.addCleanup(shutil.rmtree, self.folder)
+
+    def leave(self, name: str, what: str) -> str:
+        file = f"{self.folder}/{name}"
+        with closing(sqlite3.connect(file)) as base:
+            base.execute(what)
+            base.commit()
+        return file
+
+    def test_a_trigger(self) -> None:
+        for what in ("create trigger other after insert on lock begin delete from task; end",
+                     "create trigger other before delete on task begin delete from lock; end"):
+            Locked(f"{self.folder}/locks")
+            file = self.leave("locks", what)
+            kept = Locked(file)
+            kept.rows("insert into task values (1, 'alice', '[]', 0)")
+            kept.rows("insert into lock (token) values ('t')")
+            kept.rows("delete from task where number = 2")
+            self.assertEqual((kept.count("task"), kept.count("lock")), (1, 1))
+        Store(f"{self.folder}/dates.db", True).close()
+        file = self.leave("dates.db", "create trigger other after insert on node begin "
+                          "update node set at = 1; end")
+        self.assertRaisesRegex(sqlite3.DatabaseError, "somebody else", Store, file, True)
+
+    def test_a_task(self) -> None:
+        """Only what a move or a removal has put aside is ended in somebody's name."""
+        kept = Locked()
+        for told in ([["contracts"], None, None], [["m", "x"], ["a"], ["contracts"]]):
+            kept.rows("insert into task (user, told, since) values ('alice', ?, ?)",
+                      (json.dumps(told), time.time()))
+        asked = mock.Mock()
+        Tasks(kept).end_those_left(lambda user: asked)
+        self.assertEqual((asked.mock_calls, kept.count("task")), ([], 0))
 
 
 if __name__ == "__main__":

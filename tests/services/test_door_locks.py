@@ -1,5 +1,6 @@
 """Locks of documents that are edited in place, over a room in memory."""
 import os
+import re
 import time
 import unittest
 from unittest import mock
@@ -8,6 +9,7 @@ from over import LOCKINFO, Drive
 from rooms_services.door.webdav import locks
 from rooms_services.door.webdav.kept import Kept, NotKept
 from rooms_services.room.paths import Names
+from rooms_services.room.room import Denials
 
 
 class Locking(Drive):
@@ -115,6 +117,48 @@ class Locking(Drive):
             self.assertEqual((status, b"/drive/board/secret" in body, b"activelock" in body),
                              (207, True, told))
 
+    def told_bob(self, *locked: str) -> list[object]:
+        """What he is told, and what is asked for him, once alice has locked these; and how many
+        denials he has left."""
+        places = ("/", "/none", "/board", "/board/secret", "/board/none", "/board/sub/deep",
+                  "/shut/x", "/proj", "/proj/closed", "/proj/closed/x", "/mine/a", "/mine/none/x")
+        asked: list[tuple[str, str, dict[str, str]]] = [
+            (method, path, {"Depth": depth}) for path in places for depth in ("0", "infinity")
+            for method in ("PUT", "DELETE", "MKCOL", "LOCK")]
+        asked += [(method, path, {"Destination": f"/drive{to}"})
+                  for method in ("MOVE", "COPY") for path in places for to in places]
+        told = list[object]()
+        self.door.room.denials = Denials(1e6, 0.0)
+        for path in locked:
+            self.lock(path, Depth="0")
+        held = self.lock("/mine/a", "bob", Depth="0")
+        objects = dict(self.room.objects)
+        for method, path, fields in asked:
+            self.room.objects = dict(objects)
+            self.room.seen.clear()
+            status, given, body = self.dav(
+                method, path, LOCKINFO % "bob" if method == "LOCK" else "", "bob", **fields)
+            seen = [one for one in self.room.seen if " GET /can/" not in one]
+            if token := given.get("Lock-Token"):
+                self.dav("UNLOCK", path, "", "bob", Lock_Token=token)
+            told.append((method, path, fields, status, re.sub(
+                rb"[0-9a-f-]{12,}", b"*", body), re.sub("[0-9a-f-]{12,}", "*", str(seen))))
+        self.dav("UNLOCK", "/mine/a", "", "bob", Lock_Token=held)
+        return [*told, self.door.room.denials.left("bob")]
+
+    def test_a_closed_folder_tells_of_no_lock_by_what_else_is_asked(self) -> None:
+        """Of a room with locks behind closed folders, which he may not remove, he is told the same
+        as of one without them."""
+        self.make(board=None, board__secret=b"s", board__sub=None, board__sub__deep=b"s", shut=None,
+                  proj=None, proj__closed=None, proj__closed__x=b"x", mine=None, mine__a=b"m")
+        for closed in ("/board", "/shut", "/proj/closed"):
+            self.room.denied |= {("bob", closed, "x"), ("bob", closed, "d")}
+        self.room.denied |= {("bob", "/", "D"), ("bob", "/proj", "D"), ("bob", "/proj", "d")}
+        without = self.told_bob()
+        told = self.told_bob("/board/secret", "/board/sub/deep", "/proj/closed/x")
+        self.assertEqual([], [(one, other) for one, other in zip(without, told, strict=True)
+                              if one != other])
+
     def test_a_lock_ends_with_the_right(self) -> None:
         """It isn't renewed by who may not take it any more."""
         self.make(a=b"x", f=None)
@@ -127,6 +171,34 @@ class Locking(Drive):
             self.assertEqual(self.status("LOCK", path, If=f"({token})"), 403, path)
             self.room.denied -= denied
             self.assertEqual(self.status("LOCK", path, If=f"({token})"), 200)
+
+    def test_a_lock_of_a_name_alone(self) -> None:
+        """It took no right to what comes there by another way, and is over then."""
+        self.make(f=None)
+        tokens = {name: self.lock(f"/f/{name}", "bob", Depth="infinity")
+                  for name in ("2027", "plan", "new", "own")}
+        self.assertEqual(self.status("PUT", "/f/2027", "x"), 423)
+        self.assertEqual(self.status("MKCOL", "/f/2027/x"), 409)
+        self.make(f__2027=None, f__plan=b"1", f__new=b"2", f__own=b"3")
+        for name in ("2027", "plan", "new"):
+            self.room.denied |= {("bob", f"/f/{name}", bit) for bit in "wadCx"}
+            self.assertEqual(self.status("LOCK", f"/f/{name}", user="bob",
+                                         If=f"({tokens[name]})"), 403)
+        # Nor does what he tries there make it one of what is there.
+        for method in ("MOVE", "COPY", "UNLOCK"):
+            self.assertIn(self.status(method, "/f/new", user="bob", Destination="/drive/f/x",
+                                      Lock_Token=tokens["plan"], If=f"({tokens['new']})"),
+                          (201, 403, 409))
+        asked = [("MKCOL", "/f/2027/x", 201), ("PUT", "/f/2027/a", 201), ("PUT", "/f/plan", 204),
+                 ("PUT", "/f/new", 204), ("LOCK", "/f/plan", 200), ("DELETE", "/f/2027/a", 204)]
+        for method, path, wanted in asked:
+            body = LOCKINFO % "alice" if method == "LOCK" else "y" if method == "PUT" else ""
+            self.assertEqual(self.status(method, path, body), wanted, (method, path))
+        # Whoever may write what came there renews it for that.
+        held = {"If": f"({tokens['own']})"}
+        self.assertEqual(self.status("LOCK", "/f/own", user="bob", **held), 200)
+        self.assertEqual(self.status("PUT", "/f/own", "x"), 423)
+        self.assertEqual(self.status("PUT", "/f/own", "x", user="bob", **held), 204)
 
     def test_a_lock_that_came_between(self) -> None:
         """Others are answered after it was looked for locks, and before a folder is reserved."""

@@ -50,12 +50,14 @@ class Over(unittest.TestCase):
             room.owners["letters", "reply"] = "carol"
         self.shown_to = "owners"
         self.opened: list[str] = []
+        self.askers: list[str] = []
         opens = mock.patch.object(gate, "opened", self._opened)
         opens.start()
         self.addCleanup(opens.stop)
         self.judge = judge.Judge()
 
-    def _opened(self, room: str, night: str) -> Opened:
+    def _opened(self, room: str, night: str, asker: str) -> Opened:
+        self.askers.append(asker)
         self.opened.append(f"{room} {night}")
         return Opened(self.shown_to, self.copy)
 
@@ -104,6 +106,15 @@ class There(Over):
         self.assertEqual(self.told("bob", "doc/letters/reply")[0], 403)
         self.deny(self.then, "bob", "/letters", "c")
         self.assertEqual(self.told("bob", "dacl/letters")[0], 403)
+
+    def test_who_opens_nights_knows_users_apart_and_not_who_they_are(self) -> None:
+        for user in ("bob", "alice", "bob"):
+            self.told(user, "doc/letters/reply")
+        bob, alice, again = self.askers
+        self.assertEqual((bob == again, bob == alice, len(bob)), (True, False, 16))
+        self.judge = judge.Judge()
+        self.told("bob", "doc/letters/reply")
+        self.assertNotEqual(self.askers[-1], bob)
 
     def test_reading_is_asked_for_as_such(self) -> None:
         self.told("bob", "doc/letters/reply")
@@ -451,7 +462,7 @@ class Asked(Over):
             places = [first, self.copy]
             ended: list[str] = []
 
-            def opened(_room: str, _night: str, places: list[str] = places) -> Opened:
+            def opened(_room: str, _night: str, _asker: str, places: list[str] = places) -> Opened:
                 return Opened("owners", places.pop(0))
 
             def ends(room: str, night: str, ended: list[str] = ended) -> None:

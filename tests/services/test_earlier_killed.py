@@ -39,6 +39,8 @@ class Slow(FakeRoom):
 class Nights(socketserver.ThreadingUnixStreamServer):
     """Who opens nights: there is one."""
     daemon_threads = True
+    # (as many as ask at once)
+    request_queue_size = 64
     copy = ""
 
 

@@ -41,6 +41,40 @@ class Places(unittest.TestCase):
         self.assertEqual(len(kept._make_place(10)), 1)
         self.assertEqual(len(kept._open), copies.MOST - 1)
 
+    def test_who_keeps_more_than_others(self) -> None:
+        """They give them to whoever has less, and take none back: else each of their questions
+        would have another night copied."""
+        kept = copies.Copies()
+        number = 0
+
+        def asks(asker: str) -> int:
+            """How many nights they keep then."""
+            nonlocal number
+            kept._make_place(10, asker)
+            number += 1
+            one = kept._open["office", str(number)] = copies.Copy(10, (0, number))
+            one.is_asked_for(asker)
+            one.known.set()
+            return sum(asker in one.askers() for one in kept._open.values())
+
+        def is_refused(asker: str) -> None:
+            before = list(kept._open)
+            with self.assertRaises(copies.Ends):
+                asks(asker)
+            self.assertEqual(list(kept._open), before)
+        self.assertEqual([asks("mallory") for _ in range(copies.MOST)], [1, 2, 3, 4])
+        is_refused("mallory")
+        self.assertEqual([asks("alice"), asks("alice")], [1, 2])
+        is_refused("alice")
+        is_refused("mallory")
+        # One that others ask for too is nobody's alone.
+        for one in kept._open.values():
+            one.is_asked_for("carol")
+        is_refused("bob")
+        for one in list(kept._open.values())[2:]:
+            del one.asked["carol"]
+        self.assertEqual(asks("bob"), 1)
+
     def test_nor_comes_later(self) -> None:
         made = copies.Copy(1, (0, 0), began=time.monotonic() - 3 * copies.PATIENCE)
         room = nights.Nights("office", "F", "/x", "/bin/false", "owners", "")
@@ -62,7 +96,7 @@ class Said(unittest.TestCase):
                 ("ready", 502, "away"), ("ready owners", 502, "away")):
             with mock.patch.object(gate, "_told", return_value=line.split()):
                 with self.assertRaises(Stop) as stopped:
-                    gate.opened("office", NIGHT)
+                    gate.opened("office", NIGHT, "0" * 16)
                 self.assertEqual((stopped.exception.status, stopped.exception.why), (status, why))
         with mock.patch.object(gate, "_told", return_value=["nights", "owners", f"{NIGHT}=5"]):
             self.assertEqual(gate.nights("office"),

@@ -11,6 +11,7 @@ from unittest import mock
 import papers
 from dated_door import line
 from fake_room import Path
+from rooms_services.door.folders import walk
 from rooms_services.door.search import asking, reading, search
 from rooms_services.door.search.reading import Reading
 from rooms_services.document_texts import feed
@@ -94,6 +95,14 @@ class Found(Searching):
         for user in ("bob", "carol"):
             for one in self.asked("kündigung", user):
                 self.assertNotRegex(one, "/doc/f/one|/folder/f/g|carol GET /(folder|can)/f/")
+
+    def test_what_is_far_down(self) -> None:
+        """It isn't looked through, which is told, and from further down it is."""
+        for deepest, is_all, wanted in ((3, True, {"/f/g/three": 1}), (2, False, {})):
+            with mock.patch.object(walk, "DEEPEST", deepest):
+                self.assertEqual(self.search("schreiben")[1]["all"], is_all)
+                self.assertEqual(self.found("schreiben"), wanted)
+                self.assertEqual(self.found("schreiben", "f"), {"/f/g/three": 1})
 
     def test_a_night_whose_list_isn_t_taken_yet(self) -> None:
         with mock.patch.object(self.keeper, "take_night"):

@@ -17,13 +17,18 @@ start_own 'own passwords' || return
 
 # The way itself.
 ask 'it can be changed here' 204 '' "alice:$now" /password
+remembered=$(printf 'alice:%s' "$now" | base64 -w 0)
+of_bob=$(printf 'bob:first one of bob' | base64 -w 0)
+ask 'also as another program writes it' 200 - '' /folder/ -H "Authorization: basic  $remembered"
+ask 'bob has one too' 200 - 'bob:first one of bob' /folder/
 began=$(date +%s%N)
 changes 'alice changes hers' 204 '' "alice:$now" "$now" 'second one, of hers'
 echo "  one change through nginx: $((($(date +%s%N) - began) / 1000000)) ms"
 ask 'the new one counts at once' 200 - 'alice:second one, of hers' /folder/
-ask 'the old one is remembered' 200 - "alice:$now" /folder/
-sleep 11
-ask 'for ten seconds' 401 - "alice:$now" /folder/
+ask 'the old one no more, which was remembered' 401 - "alice:$now" /folder/
+ask 'nor as another program writes it' 401 - '' /folder/ -H "Authorization: basic  $remembered"
+holds 'nginx has nothing to say of that' eval '! grep -q remembered error.log'
+holds 'what is remembered of others stays' grep -rqF "KEY: rooms Basic $of_bob" remembered
 now='second one, of hers'
 holds 'bcrypt of cost 10, and what stands behind it' \
   grep -qE '^alice:\$2y\$10\$[^:]{53}:of the third floor$' "$kept/rooms.htpasswd"

@@ -102,14 +102,14 @@ def _mount_points() -> list[str]:
     return found
 
 
-def unmounted(backups: str) -> str:
+def unmounted(folder_of: str, setting: str = "BACKUPS") -> str:
     """The mount point of a disk that isn't mounted is an ordinary folder: nothing is written there,
     and what lies there is from before the disk came. What is told of it, if it is so."""
-    resolved = os.path.realpath(backups) + "/"
+    resolved = os.path.realpath(folder_of) + "/"
     for place in _mount_points():
         if resolved.startswith(place.rstrip("/") + "/") and not os.path.ismount(place):
-            return (f"not mounted: {place}, which /etc/fstab has, so {backups}, of BACKUPS, isn't "
-                    "on its disk")
+            return (f"not mounted: {place}, which /etc/fstab has, so {folder_of}, of {setting}, "
+                    "isn't on its disk")
     return ""
 
 

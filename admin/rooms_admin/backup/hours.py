@@ -100,9 +100,9 @@ def _remove_old(room: Room, before: backups.Found, date: str) -> list[str]:
     return [one for one in said if one]
 
 
-def keep(room: Room, source: str) -> None:
-    """Of the copy in this folder, if an hour has passed since the last one was kept."""
-    now = time.time()
+def keep(room: Room, source: str, now: float) -> None:
+    """Of the copy in this folder, which was begun at that moment, if an hour has passed since the
+    last one was kept. Its name says what it has: nothing that came later."""
     try:
         before = found(room)
         if not is_due(before.backups, now):

@@ -3,7 +3,7 @@ cut off has left is put right."""
 import os
 import re
 import time
-from collections.abc import Iterator
+from collections.abc import Callable, Iterator
 from contextlib import contextmanager
 from dataclasses import dataclass
 
@@ -261,9 +261,10 @@ class Restore:
             raise Stop(why)
 
 
-def restore_room(conf: str, backup: str, start: bool, starts: bool = False) -> str:
-    """The folder of the backup that was taken. Without a backup it only cleans up after a run that
-    was cut off. What the disk of backups has is here before the room is locked."""
+def restore_room(conf: str, backup: str, start: bool, starts: bool = False,
+                 look: Callable[[Taken], None] = lambda taken: None) -> None:
+    """Without a backup it only cleans up after a run that was cut off. What the disk of backups has
+    is here before the room is locked. `look` may change what was taken."""
     room = settings.room(conf)
     named = f"--room {conf} " if conf else ""
     with locks.lock(room.unit, 0):
@@ -272,10 +273,11 @@ def restore_room(conf: str, backup: str, start: bool, starts: bool = False) -> s
         if not backup or Restore(room, start).stage is not None:
             _restore_locked(room, None, named, start, starts)
     if not backup:
-        return ""
-    with taken_from(room, backups.find(room, backup)) as taken, locks.lock(room.unit, 60):
-        _restore_locked(room, taken, named, start, starts)
-    return taken.place
+        return
+    with taken_from(room, backups.find(room, backup)) as taken:
+        look(taken)
+        with locks.lock(room.unit, 60):
+            _restore_locked(room, taken, named, start, starts)
 
 
 def _restore_locked(room: Room, taken: Taken | None, named: str, start: bool, starts: bool) -> None:
@@ -315,13 +317,11 @@ def _tell_nothing(room: Room, named: str) -> None:
          if kept else ""))
 
 
-def would_restore(conf: str, backup: str, start: bool) -> str:
+def would_restore(conf: str, backup: str, start: bool, look: Callable[[Taken], None]) -> None:
     """The backup is verified as it would be; nothing is stopped, and nothing changes."""
     room = settings.room(conf)
-    found = backups.find(room, backup)
-    with private_server.private_copy(room, found) as copied:
-        verified(room, copied, found)
-    print(f"would: restored {room.file} from {found}")
+    with taken_from(room, backups.find(room, backup)) as taken:
+        print(f"would: restored {room.file} from {taken.place}")
+        look(taken)
     if start:
         print(f"would: {room.unit} is stopped for a moment, and started")
-    return found

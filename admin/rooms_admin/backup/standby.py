@@ -5,7 +5,7 @@ import time
 from contextlib import ExitStack
 
 from ..cli import report
-from ..host import commands, locks, safe
+from ..host import commands, locks, safe, waiting
 from ..room import private_server, program, server
 from . import backups, copying, hours
 from ..cli.report import Stop, say
@@ -77,11 +77,25 @@ def _take_place(room: Room, own: str, part: str) -> None:
         os.fsync(target)
 
 
+def hindered(room: Room) -> str:
+    """Where STANDBY is a folder, as of another machine's disk: rsync would make one that isn't
+    there, on this machine's own disk."""
+    def look() -> str:
+        if os.path.isdir(room.standby):
+            return backups.unmounted(room.standby, "STANDBY")
+        return f"no folder: {room.standby}, of STANDBY in {room.conf}, isn't there"
+    if not room.standby.startswith("/"):
+        return ""
+    return str(waiting.answer(waiting.PATIENCE, look, room.standby) or "")
+
+
 def send(room: Room) -> None:
     """The time isn't asked, which may have been set back. A large room takes as long as its way
     does; rsync itself ends where that is dead."""
     if not room.standby:
         return
+    if why := hindered(room):
+        raise Stop(why)
     done = commands.beyond(
         ["nice", "rsync", "--ignore-times", "--times", "--perms", "--no-whole-file", "--fsync",
          "--timeout=60", "-e", "ssh -o BatchMode=yes -o ConnectTimeout=10", "--",
@@ -100,15 +114,16 @@ def make(room: Room) -> None:
             shutil.rmtree(part, ignore_errors=True)
             hours.remove_left(room)
             own = owned.enter_context(private_server.own_folder(room))
+            began = time.time()
             copied = copy(room, own)
             if copied is not None:
                 keep(room, copied, own, part)
                 try:
-                    send(room)
-                finally:
-                    # Whether or not the other machine has it.
                     if room.hours:
-                        hours.keep(room, os.path.join(backups.folder(room), "standby"))
+                        hours.keep(room, os.path.join(backups.folder(room), "standby"), began)
+                finally:
+                    # Whether or not there is one of the hour.
+                    send(room)
         finally:
             report.ignore_signals()
             shutil.rmtree(part, ignore_errors=True)
@@ -122,7 +137,9 @@ def would(room: Room) -> None:
         return
     place = os.path.join(backups.folder(room), "standby", room.base)
     print(f"would: {room.file}, {server.size_of(room.file) >> 20} MB, is copied to {place}")
-    if room.standby:
+    if why := hindered(room):
+        say(why)
+    elif room.standby:
         print(f"would: {room.standby} gets it")
     if room.hours and hours.is_due(hours.found(room).backups, time.time()):
         print(f"would: an hourly copy is kept in {hours.place(room)}")

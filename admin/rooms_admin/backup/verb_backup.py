@@ -22,7 +22,7 @@ from ..room import settings
 from . import night, texts
 from ..people import ended, further_down, offered
 from ..site import certificates
-from ..machine_tar import machine
+from ..machine_tar import machine_tar
 from ..cli.report import Refused
 
 
@@ -41,7 +41,7 @@ def run(given: argparse.Namespace) -> int:
         room = settings.room(given.room)
         # One run at a time.
         with locks.lock(f"{room.unit}.nightly", 10):
-            return night.Night(room, night.Beside(machine.save, certificates.to_be_told, [
+            return night.Night(room, night.Beside(machine_tar.save, certificates.to_be_told, [
                 (texts.LISTS, offered.nightly), (texts.REVIEW, further_down.nightly),
                 (texts.LISTS, ended.nightly)])).run()
     except Refused as stop:

@@ -2,7 +2,7 @@
 files, the name of one in BACKUPS, or latest, which is the newest by the number that each run wrote.
 The old room is kept under a dated name. A run that was cut off leaves the old room, the new one or
 no room in place, never parts of both. If there is none, the same command, or --undo, puts the old
-room back.
+room back. Accesses that are over don't come back, and who is in groups again is printed.
 
 Without --start the server has to be stopped, and isn't started. With --start it is stopped for a
 moment, and started whatever happened.
@@ -13,19 +13,15 @@ What is replaced is kept before, in /var/backups/rooms/before-machine.DATE.tar; 
 goes back. Trust a tar as you trust root in what the verb names: that may say what runs as root."""
 import argparse
 import os
-from contextlib import ExitStack, suppress
+from contextlib import ExitStack
 
 from ..cli import words
-from ..host import safe, waiting
 from ..host.root import ROOT
 from ..room import settings
-from . import restoring, texts
-from ..lists import dump
-from ..people import joining, known
+from . import restoring
 from ..machine_tar import machine_tar, restore_machine
+from ..people.coming_back import ComingBack
 from ..cli.report import Refused, say
-from ..lists.dump import Pair
-from ..people.known import Known
 
 
 def bring_back_machine(given: argparse.Namespace) -> int:
@@ -33,6 +29,8 @@ def bring_back_machine(given: argparse.Namespace) -> int:
         raise Refused("not root")
     conf = settings.file_of(given.room)
     tar = machine_tar.read(machine_tar.find(conf, given.backup))
+    for lack in tar.left_out:
+        say(f"left out: {lack}")
     with ExitStack() as owned:
         task = restore_machine.Machine(tar, owned)
         task.lock()
@@ -85,32 +83,10 @@ def run(given: argparse.Namespace) -> int:
         backup = os.path.abspath(backup)
     conf = given.room and settings.file_of(given.room)
     os.chdir("/")
-    last = known.kept(settings.room(conf))
+    coming = ComingBack(settings.room(conf), given.dry_run)
     if given.dry_run:
-        place = restoring.would_restore(conf, backup, given.start)
+        restoring.would_restore(conf, backup, given.start, coming.look)
     else:
-        place = restoring.restore_room(conf, backup, given.start)
-    if last and place:
-        _tell_groups(last, place, "would: " if given.dry_run else "")
+        restoring.restore_room(conf, backup, given.start, look=coming.look)
+    coming.tell()
     return 0
-
-
-def _members_of(place: str) -> set[Pair] | None:
-    """As the run that made the backup wrote them: a copy of an hour has none. Its disk may hang."""
-    def asked() -> list[Pair]:
-        with safe.own_file(os.path.join(place, texts.LISTS)) as source:
-            return list(dump.members(source))
-    with suppress(waiting.Hangs):
-        found = waiting.answer(waiting.PATIENCE, asked, place)
-        return {(group, user) for group, user in found} if isinstance(found, list) else None
-    return None
-
-
-def _tell_groups(last: Known, place: str, would: str) -> None:
-    """Whoever has left a group since then is in it again, and nothing else says so."""
-    then = _members_of(place)
-    if then is None:
-        return
-    change = joining.asked(last.members, then, last.members - then)
-    if not change.is_none:
-        print(f"{would}groups are those of the backup:", *change.lines(), sep="\n")

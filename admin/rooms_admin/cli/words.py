@@ -24,6 +24,24 @@ class _Help(argparse.Action):
         raise Asked(parser)
 
 
+class _Once(argparse.Action):
+    """Of two values the second would count alone, without a word. A part's options are read apart
+    from its verb's."""
+
+    def __call__(self, parser: argparse.ArgumentParser, namespace: argparse.Namespace,
+                 values: Any, _name: str | None = None) -> None:
+        assert isinstance(parser, Parser)
+        seen = vars(namespace).setdefault(_SEEN[parser.is_part], set())
+        if self.dest in seen:
+            parser.error(f"{name_of(self)} stands twice")
+        seen.add(self.dest)
+        setattr(namespace, self.dest, values)
+
+
+# Which options with a value were given: to a verb, and to a part of it.
+_SEEN = ("_to_verb", "_to_part")
+
+
 class _Words(argparse.ArgumentParser):
     """Which word is which. What is wrong with them is told as of their verb."""
 
@@ -142,7 +160,7 @@ def _from_here(word: str) -> str:
 def room(parser: argparse._ActionsContainer, about: str = f"{_ROOM}; office without it") -> None:
     """The room of a verb: there is one way to name it. Before a part's word it counts too."""
     is_part = isinstance(parser, Parser) and parser.is_part
-    parser.add_argument("-r", "--room", metavar="ROOM", help=about, type=_from_here,
+    parser.add_argument("-r", "--room", metavar="ROOM", help=about, type=_from_here, action=_Once,
                         default=argparse.SUPPRESS if is_part else "")
 
 
@@ -173,15 +191,18 @@ def option(parser: argparse._ActionsContainer, name: str, value: str, about: str
     """With one value, or with as many as its names are."""
     values = value.split()
     if len(values) > 1:
-        parser.add_argument(name, metavar=tuple(values), nargs=len(values), default=[], help=about)
+        parser.add_argument(name, metavar=tuple(values), nargs=len(values), default=[], help=about,
+                            action=_Once)
     else:
-        parser.add_argument(name, metavar=value, default=default, help=about, dest=dest)
+        parser.add_argument(name, metavar=value, default=default, help=about, dest=dest,
+                            action=_Once)
 
 
-def several(parser: Parser, name: str, value: str, about: str) -> None:
+def several(parser: argparse._ActionsContainer, name: str, value: str, about: str) -> None:
     """An option that may stand several times."""
+    is_part = isinstance(parser, Parser) and parser.is_part
     parser.add_argument(name, metavar=value, action="append", help=about,
-                        default=argparse.SUPPRESS if parser.is_part else [])
+                        default=argparse.SUPPRESS if is_part else [])
 
 
 def dry_run(parser: argparse._ActionsContainer, what: str) -> None:
@@ -218,4 +239,8 @@ def read(verb: str, module: ModuleType, words: Sequence[str]) -> argparse.Namesp
             parser.error(f"the value of {one[:-1]} is empty")
     if words.count("--") > 1:
         parser.error("'--' stands twice")
-    return parser.parse_args(words)
+    given = parser.parse_args(words)
+    both = set.intersection(*(vars(given).pop(name, set()) for name in _SEEN))
+    if both:
+        parser.error(f"--{both.pop()} stands twice")
+    return given

@@ -7,6 +7,7 @@ from contextlib import ExitStack
 from ..cli import report
 from ..host import locks, waiting
 from ..room import names, server, settings
+from ..passwords import remembered
 from ..backup import backups, texts
 from ..lists import dump, entries
 from ..people import joining, known, members, offered
@@ -233,6 +234,7 @@ class Run:
             if not change.is_none:
                 after.pop_all()
                 then = known.change(self.room, now, coming, going)
+                remembered.forget(user for _, user in going)
                 after.callback(self.tell, change, known.here(self.room, then, self.newest))
 
     def tell(self, change: Change, then: Known) -> None:

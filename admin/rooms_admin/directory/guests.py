@@ -71,3 +71,24 @@ def look(root: str, where: settings.Directory, rooms: Iterable[Place]) -> list[s
                         "more, whom the directory hasn't: GUESTS=yes lets them in "
                         "(docs/directory.md)")
     return said
+
+
+def back(root: str, rooms: Iterable[Place]) -> list[str]:
+    """Whose passwords in the files of rooms count again without the directory: best it says whom
+    it has lost meanwhile. Guests signed in by theirs all the time."""
+    said = []
+    for one in rooms:
+        users = passwords.users(root + passwords.file_of(root, one.name))
+        if one.passwords == "directory" and not one.guests and users:
+            said.append(f"{', '.join(sorted(users))} of {one.name} can sign in again, by passwords "
+                        f"of before{_lost(root, users)}; rooms-admin user remove keeps them out")
+    return said
+
+
+def _lost(root: str, users: set[str]) -> str:
+    try:
+        found = doubled(Directory(settings.directory(root + FILE)), users)
+    except Stop as stop:
+        return f" (which of them the directory has isn't known: {stop})"
+    lost = sorted(users - set(found))
+    return f", and the directory hasn't {', '.join(lost)}" if lost else ""

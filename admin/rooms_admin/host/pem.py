@@ -1,13 +1,15 @@
-"""Certificates and keys as PEM, whoever wrote them: of a file its blocks alone count, each of a
-kind that is known, with DER in it. They are written anew, so nothing else of the file is left."""
+"""Certificates and keys as PEM, whoever wrote them: of a file its blocks alone count, those of a
+kind that is known, with DER in them. They are written anew, so nothing else of the file is left."""
 import base64
 import binascii
 import re
 from dataclasses import dataclass, field
 
 _BEGINS = re.compile(r"-----BEGIN ([A-Z ]{1,40})-----", re.ASCII)
-_KINDS = {"CERTIFICATE", "PRIVATE KEY", "ENCRYPTED PRIVATE KEY", "EC PRIVATE KEY",
-          "RSA PRIVATE KEY", "EC PARAMETERS", "DH PARAMETERS"}
+_KINDS = {"CERTIFICATE", "X509 CERTIFICATE", "PRIVATE KEY", "ENCRYPTED PRIVATE KEY",
+          "EC PRIVATE KEY", "RSA PRIVATE KEY", "EC PARAMETERS", "DH PARAMETERS"}
+# What Windows' editor puts before a text, which OpenSSL passes over.
+_MARK = b"\xef\xbb\xbf"
 # Above an encrypted key of the older form.
 _ABOVE = re.compile(r"(Proc-Type: 4,ENCRYPTED|DEK-Info: [A-Z0-9-]{1,40},[A-F0-9]{1,64})", re.ASCII)
 # A chain of certificates has some 10 kB.
@@ -24,12 +26,12 @@ class _Block:
         if _ABOVE.fullmatch(line) and not self.lines:
             self.above.append(line)
         elif line:
-            self.lines.append(line)
+            self.lines.append("".join(line.split()))
 
     def text(self) -> str:
         data = base64.b64decode("".join(self.lines), validate=True)
         # What an older form has encrypted isn't DER.
-        if self.kind not in _KINDS or not (self.above or _is_der(data)):
+        if not (self.above or _is_der(data)):
             raise ValueError(self.kind)
         whole = base64.b64encode(data).decode()
         rows = [whole[at:at + 64] for at in range(0, len(whole), 64)]
@@ -50,7 +52,7 @@ def _is_der(data: bytes) -> bool:
 def _blocks(data: bytes) -> list[_Block]:
     found: list[_Block] = []
     inside: _Block | None = None
-    for line in data.decode("ascii", "replace").split("\n"):
+    for line in data.removeprefix(_MARK).decode("ascii", "replace").split("\n"):
         line = line.rstrip()
         begins = _BEGINS.fullmatch(line)
         if begins:
@@ -62,9 +64,9 @@ def _blocks(data: bytes) -> list[_Block]:
             inside = None
         elif inside:
             inside.add(line)
-    if inside or not found:
+    if inside:
         raise ValueError("no whole block")
-    return found
+    return [one for one in found if one.kind in _KINDS]
 
 
 def anew(data: bytes) -> bytes | None:
@@ -72,7 +74,7 @@ def anew(data: bytes) -> bytes | None:
     if len(data) > MOST:
         return None
     try:
-        return "".join(one.text() for one in _blocks(data)).encode()
+        return "".join(one.text() for one in _blocks(data)).encode() or None
     except (ValueError, binascii.Error):
         return None
 

@@ -1,10 +1,10 @@
 """review.csv of a backup, which is what `rooms review FILE /` prints: who may do what. A row that
 says what the same caller's row at the folder above says is left out."""
-from collections.abc import Iterable, Iterator
+from collections.abc import Iterable, Iterator, Sequence
 from dataclasses import dataclass, field
 from typing import NamedTuple
 
-from ..room import names
+from ..room import in_parts, names
 from ..backup import texts
 from ..cli.report import Stop
 
@@ -72,3 +72,12 @@ def seen_at(found: Iterable[Row], path: str, with_below: bool) -> Place:
         before = {**before, **at[one]}
         place.at.append(before)
     return place
+
+
+def without_parts(found: Sequence[Row]) -> list[Row]:
+    """A large document stands for its parts, of which all may do as much as with it."""
+    at: dict[str, set[Row]] = {}
+    for row in found:
+        at.setdefault(row.path, set()).add(row._replace(path=""))
+    parts = in_parts.hidden(at)
+    return [row for row in found if row.path not in parts or at[row.path] != at[parts[row.path]]]

@@ -2,7 +2,7 @@
 letters of their rights, 'remove' where they could remove it or move it away, and the entries that
 say so. Who is in the groups that these name comes last. Whoever has no line could do as much as
 'every other name'. With --below each caller has one, and others follow where somebody could do
-something else further down.
+something else further down, but for the parts of a large document that are as it is.
 
 With --user it is all that one user could do at PATH and below: a line for the first, and for each
 object where it is something else than in its folder. A name that nothing of the room names could do
@@ -65,6 +65,8 @@ def run(given: argparse.Namespace) -> int:
     room, folder = asked.backup(given)
     with texts.beside(room, folder, texts.REVIEW) as source:
         rows = _rows(given, room, texts.of_csv(source), callers.decoded(here))
+    if not given.json:
+        rows = review.without_parts(rows)
     wanted = {callers.encoded(it) for row in rows for it in (row.path, review.above(row.path))}
     with texts.beside(room, folder, texts.LISTS) as source:
         known = callers.known_of(dump.whole(source, texts.LISTS), {here, *wanted})

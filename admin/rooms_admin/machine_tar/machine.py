@@ -12,7 +12,7 @@ from collections.abc import Iterator
 from contextlib import suppress
 from dataclasses import dataclass, field
 
-from ..host import at_jobs, commands, safe
+from ..host import at_jobs, commands, pem, safe
 from ..room import settings
 from ..passwords import passwords
 from ..site import certificates
@@ -29,6 +29,8 @@ OWN = re.compile(
 ENABLED = re.compile(r"rooms[A-Za-z0-9:_.@-]*\.(service|socket|timer|path|target)", re.ASCII)
 # Bytes of a table of cron's.
 _TABLE = 1 << 16
+# Bytes of a tar that a restore takes; and of files in it that aren't the keeper's.
+MOST, _MOST_OURS = 64 << 20, 40 << 20
 # What an editor, dpkg, an install or a restore leaves beside them.
 LEFT = re.compile(r"(\.(old|new|swp|dpkg-[a-z]+|rooms-restore)|~)$", re.ASCII)
 
@@ -54,6 +56,18 @@ def is_own_link(name: str, target: str) -> bool:
             and ".." not in re.sub(r"^(\.\./)*", "", target).split("/")
             and os.path.normpath(f"/{os.path.dirname(name)}/{target}").startswith(
                 "/etc/letsencrypt/"))
+
+
+def is_own_name(name: str, certificates: list[str]) -> bool:
+    parts = name.split("/")
+    return (not {"", ".", ".."} & set(parts) and "\\" not in name and name.isprintable()
+            and (OWN.fullmatch(name) is not None or name in certificates))
+
+
+def folders(name: str) -> list[str]:
+    """Those on the way to a file, from the top."""
+    parts = name.split("/")
+    return ["/".join(parts[:number]) for number in range(1, len(parts))]
 
 
 def _names() -> Iterator[str]:
@@ -140,25 +154,17 @@ def save(target: str, version: str, added: list[str] | None = None,
     `more` certificates."""
     lacks = _lacks_site()
     theirs = _Theirs()
-    wanted = sorted({*certificates.certificates(), *(more or [])})
+    wanted = sorted({"/" + os.path.normpath(one).lstrip("/")
+                     for one in [*certificates.certificates(), *(more or [])]})
     with tarfile.open(target, "x", format=tarfile.GNU_FORMAT, errorlevel=2) as tar:
         ours = {one for one in _names() if OWN.fullmatch(one) and not LEFT.search(one)}
         if added is None:
             ours -= _packaged()
         ours |= {one[1:] for one in wanted if one[1:] not in (added or [])}
-        for name in sorted(ours, key=lambda name: (_is_of_no_room(name), name)):
-            if not name.isprintable():
-                lacks.append(f"it lacks {name!r}, whose name isn't plain text")
-                continue
-            try:
-                _add(tar, name, theirs)
-            except OSError as fault:
-                if fault.errno in (errno.ENOSPC, errno.EDQUOT, errno.EIO, errno.EFBIG):
-                    raise
-                if _is_theirs(name):
-                    theirs.left_out.append(name)
-                else:
-                    lacks.append(f"it lacks /{name}, which can't be read")
+        # (what is below a link comes back where that leads)
+        links = set(filter(_is_link, ours))
+        ours = {one for one in ours if links.isdisjoint(folders(one))}
+        lacks += _add_all(tar, ours, [one[1:] for one in wanted], theirs)
         _add_text(tar, "machine/about", _about(version))
         if added is not None:
             _add_text(tar, "machine/added", "".join(one + "\n" for one in added))
@@ -170,6 +176,48 @@ def save(target: str, version: str, added: list[str] | None = None,
         lacks.append(f"it lacks /{theirs.left_out[0]} and {len(theirs.left_out) - 1} more, which "
                      "can't be read or are far more than passwords are")
     return lacks
+
+
+def _add_all(tar: tarfile.TarFile, ours: set[str], wanted: list[str], theirs: "_Theirs"
+             ) -> list[str]:
+    """What it lacks then. No restore takes a tar with more than it looks for."""
+    lacks = []
+    large = _too_large(ours)
+    for name in sorted(ours, key=lambda name: (_is_of_no_room(name), name)):
+        if not is_own_name(name, wanted):
+            lacks.append(f"it lacks {name!r}, whose name isn't plain text")
+            continue
+        if name in large:
+            lacks.append(f"it lacks /{name}, which is too large: move it elsewhere")
+            continue
+        try:
+            data = _add(tar, name, theirs)
+            if name in wanted and data is not None and pem.anew(data) is None:
+                lacks.append(f"no restore takes /{name}, which is no certificate and no key in PEM")
+        except OSError as fault:
+            if fault.errno in (errno.ENOSPC, errno.EDQUOT, errno.EIO, errno.EFBIG):
+                raise
+            if _is_theirs(name):
+                theirs.left_out.append(name)
+            else:
+                lacks.append(f"it lacks /{name}, which can't be read")
+    return lacks
+
+
+def _too_large(ours: set[str]) -> set[str]:
+    """The largest files, where a restore couldn't take all."""
+    sizes = []
+    for name in ours:
+        with suppress(OSError):
+            if not _is_theirs(name) and not _is_link(name):
+                sizes.append((os.stat(f"{ROOT}/{name}").st_size, name))
+    space, found = _MOST_OURS, set()
+    for size, name in sorted(sizes):
+        # (each costs a head in the tar, and another one where its name is long)
+        space -= size + 4 * tarfile.BLOCKSIZE
+        if space < 0:
+            found.add(name)
+    return found
 
 
 def _add_text(tar: tarfile.TarFile, name: str, text: str) -> None:
@@ -187,6 +235,11 @@ def _opened(place: str) -> int:
             return safe.file_below(within, os.path.basename(place))
         except safe.NoFile as fault:
             raise OSError(errno.ELOOP, str(fault)) from fault
+
+
+def _is_link(name: str) -> bool:
+    place = f"{ROOT}/{name}"
+    return os.path.islink(place) and is_own_link(name, os.readlink(place))
 
 
 def _is_theirs(name: str) -> bool:
@@ -218,20 +271,21 @@ class _Theirs:
         return data
 
 
-def _add(tar: tarfile.TarFile, name: str, theirs: _Theirs) -> None:
+def _add(tar: tarfile.TarFile, name: str, theirs: _Theirs) -> bytes | None:
     """The content of a file, even if it is a link here that leads elsewhere, unless somebody else
     than root could have put that there. All of it is read before anything of it is written, so that
     the tar stays whole."""
     place = f"{ROOT}/{name}"
     member = tarfile.TarInfo(name)
-    if os.path.islink(place) and is_own_link(name, os.readlink(place)):
+    if _is_link(name):
         member.type, member.linkname, member.mode = tarfile.SYMTYPE, os.readlink(place), 0o777
         tar.addfile(member)
-        return
+        return None
     with safe.opened(_opened(place)) as number, open(number, "rb", closefd=False) as source:
         data = theirs.read(number, name) if _is_theirs(name) else source.read()
         seen = os.fstat(number)
-    if data is None:
-        return
-    member.size, member.mode, member.mtime = len(data), seen.st_mode & 0o777, int(seen.st_mtime)
-    tar.addfile(member, io.BytesIO(data))
+    if data is not None:
+        member.size, member.mode, member.mtime = (
+            len(data), seen.st_mode & 0o777, int(seen.st_mtime))
+        tar.addfile(member, io.BytesIO(data))
+    return data

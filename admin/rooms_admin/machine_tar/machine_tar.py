@@ -13,10 +13,9 @@ from ..passwords import passwords
 from ..backup import backups
 from ..site import template
 from . import machine
-from ..cli.report import Refused, Stop, say
+from ..cli.report import Refused, Stop
 from ..host.root import ROOT
 
-_MOST = 64 << 20
 _OWN_WORDS = ("machine/about", "machine/certificates", "machine/enabled", "machine/added")
 _PLACE = re.compile(r"(/[-A-Za-z0-9._+@,=:]+)+", re.ASCII)
 # Where a certificate or a key comes back to.
@@ -54,6 +53,8 @@ class Tar:
     files: dict[str, File] = field(default_factory=dict)
     # Names of those certificates and keys that come back.
     certificates: list[str] = field(default_factory=list)
+    # What doesn't come back, a line each.
+    left_out: list[str] = field(default_factory=list)
 
     def lines(self, word: str) -> list[str]:
         return [one for one in self.words.get(word, "").split("\n") if one]
@@ -111,12 +112,6 @@ def find(conf: str, backup: str) -> str:
     return os.path.abspath(backup)
 
 
-def _is_own_name(name: str, certificates: list[str]) -> bool:
-    parts = name.split("/")
-    return (not {"", ".", ".."} & set(parts) and "\\" not in name and name.isprintable()
-            and (machine.OWN.fullmatch(name) is not None or name in certificates))
-
-
 def _opened(place: str) -> int:
     """What it has runs as root, so nobody else may have written it. Links on the way are those of
     whoever has named it; what is looked at is what is read, whatever gets its name meanwhile."""
@@ -133,8 +128,8 @@ def _opened(place: str) -> int:
     if seen.st_uid not in (0, os.geteuid()) or seen.st_mode & 0o022:
         fault = (f"not safe: {place} is one that others can write, and what it has runs as root: "
                  "copy it to where only root does, once you know that it is yours")
-    elif seen.st_size > _MOST:
-        fault = f"no machine: {place} has more than {_MOST >> 20} MB"
+    elif seen.st_size > machine.MOST:
+        fault = f"no machine: {place} has more than {machine.MOST >> 20} MB"
     if fault:
         os.close(number)
         raise Refused(fault)
@@ -159,6 +154,17 @@ def _members(place: str) -> list[tuple[tarfile.TarInfo, bytes]]:
     return found
 
 
+def save(target: str, version: str, added: list[str] | None = None,
+         more: list[str] | None = None) -> list[str]:
+    """What machine.save writes, looked at as a restore will: not on the day that it is needed."""
+    lacks = machine.save(target, version, added, more)
+    try:
+        read(os.path.abspath(target))
+    except Refused as why:
+        lacks.append(f"no restore takes it: {why}")
+    return lacks
+
+
 def read(place: str) -> Tar:
     """Nothing is written before every name, link and file was looked at."""
     members = _members(place)
@@ -174,16 +180,18 @@ def read(place: str) -> Tar:
     for name, times in Counter(member.name for member, _ in members).items():
         if times > 1:
             raise Refused(f"not ours: {place} has '{name}' twice")
-        if name not in (*_OWN_WORDS, *elsewhere) and not _is_own_name(name, tar.certificates):
+        if (name not in (*_OWN_WORDS, *elsewhere)
+                and not machine.is_own_name(name, tar.certificates)):
             raise Refused(f"not ours: {place} has '{name}'")
-        if any(above in links for above in folders(name)):
+        if not links.isdisjoint(machine.folders(name)):
             raise Refused(f"not ours: {place} has '{name}' below a link")
     for member, data in members:
         if member.name in elsewhere:
-            say(f"left out: /{member.name}: certificates and keys come back below "
+            tar.left_out.append(
+                f"/{member.name}: certificates and keys come back below "
                 f"{', '.join('/' + one for one in CERTIFICATES)} alone: bring it there by hand")
-        elif member.name not in tar.words:
-            tar.files[member.name] = _look_at(tar, member, data)
+        elif member.name not in tar.words and (file := _look_at(tar, member, data)):
+            tar.files[member.name] = file
     _look_at_places(tar)
     return tar
 
@@ -202,13 +210,7 @@ def _look_at_words(tar: Tar) -> list[str]:
     return elsewhere
 
 
-def folders(name: str) -> list[str]:
-    """Those on the way to a file, from the top."""
-    parts = name.split("/")
-    return ["/".join(parts[:number]) for number in range(1, len(parts))]
-
-
-def _look_at(tar: Tar, member: tarfile.TarInfo, data: bytes) -> File:
+def _look_at(tar: Tar, member: tarfile.TarInfo, data: bytes) -> File | None:
     name = member.name
     if member.type == tarfile.SYMTYPE:
         if not machine.is_own_link(name, member.linkname):
@@ -219,20 +221,22 @@ def _look_at(tar: Tar, member: tarfile.TarInfo, data: bytes) -> File:
     if name in tar.certificates:
         found = pem.anew(data)
         if found is None:
-            raise Refused(f"not ours: '/{name}' in {tar.place} is no certificate and no key")
+            tar.left_out.append(f"/{name}: certificates and keys alone come back there, and it is "
+                                "neither")
+            return None
         return File(found, 0o600 if pem.has_key(found) else 0o644)
     if _PASSWORDS.fullmatch(name):
-        data = _passwords(name, data)
+        data = _passwords(tar, name, data)
     return File(data, member.mode & 0o644, ran=bool(member.mode & 0o111))
 
 
-def _passwords(name: str, data: bytes) -> bytes:
+def _passwords(tar: Tar, name: str, data: bytes) -> bytes:
     """The lines that are one of a user."""
     rows = data.split(b"\n")
     good = [row for row in rows if passwords.nginx_tries_quickly(row)]
     if len(good) < len(rows):
-        say(f"left out: {len(rows) - len(good)} lines of /{name}, which nginx can't try, or not in "
-            "a moment: give these users new passwords")
+        tar.left_out.append(f"{len(rows) - len(good)} lines of /{name}, which nginx can't try, or "
+                            "not in a moment: give these users new passwords")
     return b"\n".join(good)
 
 
@@ -252,7 +256,7 @@ def _look_at_places(tar: Tar) -> None:
         if name in tar.files and not tar.files[name].link:
             _is_here(name)
     for name in tar.lines("machine/added"):
-        if not _is_own_name(name, tar.certificates):
+        if not machine.is_own_name(name, tar.certificates):
             raise Refused(f"not ours: {tar.place} would remove '{name}'")
         if name in tar.certificates:
             _is_here(name)

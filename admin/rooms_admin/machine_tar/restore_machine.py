@@ -14,10 +14,11 @@ from ..host import commands, locks, safe, waiting
 from ..room import forms, program, server, settings
 from ..passwords import passwords
 from ..backup import restoring
+from ..people.coming_back import ComingBack
 from . import machine, machine_tar
 from ..cli.report import Refused, Stop, say
 from ..host.root import ROOT
-from .machine_tar import File, Tar, folders, setting_of
+from .machine_tar import File, Tar, setting_of
 
 
 def look_at_version(tar: Tar, conf: str) -> str:
@@ -98,7 +99,7 @@ class Machine:
         self.going = [name for name in self.tar.lines("machine/added")
                       if os.path.lexists(f"{ROOT}/{name}")]
         for above in sorted({one for name in [*self.tar.files, *self.going]
-                             for one in folders(name)}):
+                             for one in machine.folders(name)}):
             if os.path.islink(f"{ROOT}/{above}"):
                 raise Refused(f"a link on the way: /{above} leads elsewhere, and nothing is made "
                               "below a link: put what the tar has there in place by hand")
@@ -135,8 +136,8 @@ class Machine:
         place, fresh = f"{self.backups}/{before}.tar", f"{self.private}/tar"
         try:
             os.mkdir(self.private, 0o700)
-            lacks = machine.save(fresh, version, self.added,
-                                 [f"/{one}" for one in self.tar.certificates])
+            lacks = machine_tar.save(fresh, version, self.added,
+                                     [f"/{one}" for one in self.tar.certificates])
             os.rename(fresh, place)
             return [place, *lacks]
         except OSError as fault:
@@ -193,7 +194,9 @@ def start_all(tar: Tar) -> int:
         try:
             room = settings.room(conf)
             if not os.path.lexists(room.file):
-                restoring.restore_room(conf, "latest", False, True)
+                coming = ComingBack(room, False)
+                restoring.restore_room(conf, "latest", False, True, coming.look)
+                coming.tell()
         except (Stop, OSError) as fault:
             say(str(fault))
             failed += 1

@@ -16,7 +16,7 @@ from dataclasses import dataclass
 
 from ..host import commands, locks, safe
 from ..room import published
-from . import password_rules
+from . import password_rules, remembered
 from ..cli.report import Refused, Stop, say
 
 COST = "10"
@@ -219,7 +219,7 @@ def held(file: str, seconds: float) -> Iterator[None]:
 
 def put_lines(file: str, lines: dict[str, bytes | None]) -> set[str]:
     """Who of them had a line, which gets another text or goes. The file is there whole at any
-    moment. All other lines stay in their places, comments too."""
+    moment. All other lines stay in their places, comments too. What was right counts no more."""
     data = read(file)
     rows = (data or b"").splitlines()
     wanted = {user.encode(): text for user, text in lines.items()}
@@ -245,6 +245,7 @@ def put_lines(file: str, lines: dict[str, bytes | None]) -> set[str]:
         if fault.errno not in (errno.ENOSPC, errno.EDQUOT) or any(wanted.values()):
             raise
         _blot_out(file, data, set(wanted))
+    remembered.forget(lines)
     return had
 
 

@@ -113,14 +113,18 @@ class Run:
                 self.not_done(due.path, one.words(), f"its path has {len(due.path)} bytes, and no "
                               "request reaches it until somebody moves what is above")
             return
-        text = ("\n".join(due.after) + "\n").encode("utf-8", "surrogateescape")
-        status, out, why = program.run(self.room, ["reset", self.room.file, due.path, "dacl"], text)
+        why = self.reset(due.path, ("\n".join(due.after) + "\n").encode("utf-8", "surrogateescape"))
         for one in due.ends:
-            if status == 0:
-                self.done.append(f"taken back: {_shown(due.path)}: {one.words()}")
+            if why:
+                self.not_done(due.path, one.words(), why[:_SHOWN])
             else:
-                said = why or out.decode(errors="replace").strip()
-                self.not_done(due.path, one.words(), said[:_SHOWN])
+                self.done.append(f"taken back: {_shown(due.path)}: {one.words()}")
+
+    def reset(self, path: bytes, text: bytes) -> str:
+        """What hindered that; nothing if nothing did."""
+        status, out, why = program.run(self.room, ["reset", self.room.file, path, "dacl"], text)
+        return "" if status == 0 else (why or out.decode(errors="replace").strip()
+                                       or f"status {status}")
 
     def all(self, night: Iterable[dump.Object]) -> None:
         """By the lists before a stop it is known whether anything is to be done. The list of an
@@ -149,20 +153,20 @@ class Run:
             say(f"no server runs: {len(found)} lists have accesses that are over, and {NEXT}")
             return
         self.undone.clear()
-        left = 0
         with ExitStack() as after, server.at_rest(self.room):
             # Whoever reads it slowly doesn't hold the server.
             after.callback(self.tell_done)
-            now = self.find(dump.parsed(members.printed(self.room, "dump").split(b"\n")))
-            begun = time.monotonic()
-            for number, due in enumerate(in_turn(now)):
-                if time.monotonic() - begun > REST:
-                    left = len(now) - number
-                    break
-                self.set(due)
-        if left:
-            self.undone.append(f"not taken back: {left} lists have accesses that are over: it took "
-                               f"more than {REST} s, and {NEXT}")
+            self.set_all(self.find(dump.parsed(members.printed(self.room, "dump").split(b"\n"))))
+
+    def set_all(self, found: list[Due]) -> None:
+        begun = time.monotonic()
+        for number, due in enumerate(in_turn(found)):
+            if time.monotonic() - begun > REST:
+                left = len(found) - number
+                self.undone.append(f"not taken back: {left} lists have accesses that are over: it "
+                                   f"took more than {REST} s, and {NEXT}")
+                break
+            self.set(due)
 
     def tell_done(self) -> None:
         for line in self.done:

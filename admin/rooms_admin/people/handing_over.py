@@ -3,10 +3,12 @@ import json
 import os
 from collections.abc import Iterator
 
-from ..cli import report
-from ..room import names
+from ..cli import alike, report
+from ..room import in_parts, names, settings
+from ..passwords import passwords
 from ..lists import dump
-from ..cli.report import Refused, say
+from . import known
+from ..cli.report import Refused, Stop
 from ..room.http_client import Caller, client
 
 
@@ -16,9 +18,35 @@ def rows(path: str) -> Iterator[dump.Object | dump.Pair]:
         yield from dump.rows(source)
 
 
-def knows(path: str, user: str) -> bool:
-    return any(user == (one.owner if isinstance(one, dump.Object) else one[1])
-               for one in rows(path))
+def _borne(path: str) -> set[str]:
+    """Names of users."""
+    return {one.owner if isinstance(one, dump.Object) else one[1] for one in rows(path)}
+
+
+def _known_here(conf: str) -> set[str]:
+    """Who has a password, or is in a group by now. Of a room elsewhere nobody is known."""
+    if "://" in conf:
+        return set()
+    room = settings.room(conf)
+    last = known.kept(room)
+    return set[str]().union({user for _, user in last.members} if last else (),
+                            *map(passwords.users, passwords.password_files(room.name)))
+
+
+def need_both(room: str, lists: str, giver: str, taker: str, is_new: bool) -> None:
+    """A name that nobody has is most often another one, mistyped, and a later user of it would have
+    what is given."""
+    _look_at(lists, giver, taker)
+    borne = _borne(lists)
+    if giver not in borne:
+        raise Stop(f"nobody: {giver} owns nothing and is in no group, as {lists} says"
+                   f"{alike.meant(giver, borne)}")
+    if taker in borne or is_new:
+        return
+    there = borne | _known_here(room)
+    if taker not in there:
+        raise Refused(f"no heir: nobody is called {taker}{alike.meant(taker, there)}; --new gives "
+                      "to a new user")
 
 
 def _look_at(lists: str, giver: str, taker: str) -> None:
@@ -35,11 +63,11 @@ def _look_at(lists: str, giver: str, taker: str) -> None:
 
 
 def give(room: str, caller: Caller, lists: str, giver: str, taker: str, dry: bool) -> int:
-    _look_at(lists, giver, taker)
     asked = client(room, caller, "the same command goes on where this one stopped", True)
-    if not knows(lists, taker):
-        say(f"{taker} owns nothing and is in no group, as {lists} says: is the name right?")
-    mine = [one.path for one in rows(lists) if isinstance(one, dump.Object) and one.owner == giver]
+    mine = {one.path: one.kind for one in rows(lists)
+            if isinstance(one, dump.Object) and one.owner == giver}
+    # A large document stands for its parts.
+    parts = in_parts.hidden(os.fsdecode(path) for path in mine if mine[path] == "document")
     handed = others = 0
     for number, path in enumerate(mine, 1):
         report.progress(f"{number} of {len(mine)}: {os.fsdecode(path)}")
@@ -48,19 +76,21 @@ def give(room: str, caller: Caller, lists: str, giver: str, taker: str, dry: boo
             asked.report(path, f"its owner isn't read: {got.text()}")
             continue
         row = json.loads(got.body)
+        is_one = os.fsdecode(path) not in parts
         if row["owner"] != giver:
-            others += 1
+            others += is_one
         elif dry and not asked.may(path, "o"):
             asked.report(path, "not given then: the right o is denied")
         elif dry:
-            handed += 1
+            handed += is_one
             report.end_progress()
-            print(f"would: {names.shown(path)}")
+            if is_one:
+                print(f"would: {names.shown(path)}")
         else:
             body = json.dumps({"group": row["group"], "owner": taker}, separators=(",", ":"))
             got = asked.ask("PUT", "attr", path, body.encode())
             if got.status == 204:
-                handed += 1
+                handed += is_one
             else:
                 asked.report(path, f"not given: {got.text()}")
     report.end_progress()

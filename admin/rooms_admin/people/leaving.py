@@ -9,7 +9,7 @@ from ..cli import alike
 from ..passwords import passwords
 from ..backup import dates
 from ..lists import dump, naming, would
-from . import handing_over, joining, known, look, offered
+from . import handing_over, joining, known, look, members, offered
 from ..cli.report import Refused, Stop, line, say
 from ..room.http_client import Caller
 from ..room.settings import Room
@@ -95,14 +95,19 @@ def leave(asked: Leaving) -> int:
     if not asked.is_dry:
         dates.tell(room, "forget", asked.name)
     with joining.locked(room, "" if asked.is_dry else done, not asked.is_dry) as newest_one:
-        lists = _dump(asked, room)
+        groups, dumped = look.tried(room, "groups-out", "dump", may_stop=not asked.is_dry)
+        before = members.of_program(look.got(groups))
+        if isinstance(dumped, Stop):
+            _leave_groups(asked, room, before, newest_one)
+            raise Stop(f"what else names {asked.name} isn't known: {dumped}")
+        lists = dumped
         found = list(naming.of_user(_rows(lists), asked.name))
         if not done and not found:
             say(f"nobody: {asked.name} has no password in {asked.file}, is in no group, owns "
                 f"nothing and stands in no list{alike.meant(asked.name, has | _borne(lists))}")
             return 1
         _tell_last(asked, room, lists)
-        _leave_groups(asked, room, dump.members(lists.split(b"\n")), newest_one)
+        _leave_groups(asked, room, before, newest_one)
     if not room.has_passwords:
         say(f"passwords of {asked.place} aren't in its file: {asked.name} has to leave where they "
             "are too")

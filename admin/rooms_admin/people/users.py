@@ -99,8 +99,8 @@ def add(place: str, room: Room | None, asked: Words, text: str) -> int:
     if room and asked.joins:
         with joining.locked(room, keeps=not asked.is_dry) as newest_one:
             change = _looked(room, asked, asked.pairs(asked.joins), set())
+            _show(change)
             if asked.is_dry:
-                _show(change)
                 return 0
             _give(place, asked, text)
             _make(room, change, newest_one)
@@ -150,6 +150,7 @@ def change(place: str, room: Room, asked: Words) -> int:
     with joining.locked(room, keeps=not asked.is_dry) as newest_one:
         change = _looked(room, asked, asked.pairs(asked.joins), asked.pairs(asked.leaves))
         _need_user(place, room, asked.name, change.before)
+        _need_left(asked, change)
         _show(change)
         for group in asked.leaves:
             if (group, asked.name) not in change.before:
@@ -157,6 +158,15 @@ def change(place: str, room: Room, asked: Words) -> int:
         if not asked.is_dry:
             _make(room, change, newest_one)
     return 0
+
+
+def _need_left(asked: Words, change: joining.Change) -> None:
+    """A group that nobody is in is most often another one, mistyped; or the same command has ended
+    it, which had somebody come into others too."""
+    there = {group for group, _ in change.before}
+    for group in asked.leaves:
+        if group not in there and not (change.is_none and asked.joins):
+            raise Refused(f"no group: nobody is in {group}{alike.meant(group, there)}")
 
 
 def _need_user(place: str, room: Room, name: str, before: set[Pair]) -> None:

@@ -35,7 +35,7 @@ from ..room.settings import Room
 
 def arguments(parser: words.Parser) -> None:
     words.room(parser)
-    parser.set_defaults(name="", groups="", file="", first=False, random=False, to="",
+    parser.set_defaults(name="", groups=[], file="", first=False, random=False, to="",
                         password=False, json=False, add=[], drop=[], new=False, dry_run=False)
     add, change, remove, listed = parser.has_parts("what", {
         "add": "somebody joins, or gets a new password, which is asked for at the terminal, or by "
@@ -74,8 +74,8 @@ def _arguments_of_add(parser: words.Parser) -> None:
     words.word(parser, "name", "[NAME]", "the user")
     words.room(parser)
     who = parser.add_mutually_exclusive_group()
-    words.option(who, "--groups", "GROUPS", "add the user to these groups, with commas between "
-                 "them")
+    words.several(who, "--groups", "GROUPS", "add the user to these groups, with commas between "
+                  "them")
     words.option(who, "--file", "FILE", "add all users of this file, and stop the server once")
     _may_be_new(parser)
     words.flag(parser, "--first", "a password that opens nothing until the user has changed it")
@@ -94,7 +94,7 @@ def read_words(given: argparse.Namespace) -> users.Words:
                       "bad arguments: NAME is missing, or --file FILE")
     if given.file and given.random:
         raise Refused("bad arguments: --file and --random don't go together")
-    joins = _names([given.groups] if given.groups else given.add)
+    joins = _names(given.groups or given.add)
     leaves = _names(given.drop)
     if given.what == "change" and not joins and not leaves:
         raise Refused("bad arguments: --add GROUPS or --drop GROUPS is missing")

@@ -255,6 +255,8 @@ def _try_apache(where: settings.Directory, chosen: str) -> None:
 
 def _switch(made: Changes, chosen: str, where: settings.Directory | None) -> None:
     if where is None:
+        for line in guests.back(made.root, template.gather(made.root).shown):
+            print(line)
         for name in sorted(os.listdir(made.root + "/etc/rooms")):
             path = f"/etc/rooms/{name}"
             if name.endswith((".conf", ".on")) and settings.value(

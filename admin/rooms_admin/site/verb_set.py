@@ -109,6 +109,10 @@ def _tell(path: str, changed: set[str], kind: type, refusal: str) -> None:
     if kind is settings.Room:
         units = {unit: None for one, unit in _STARTED.items() if one in changed}
         todo += [f"systemctl restart {unit}@{name}" for unit in units]
+    if "PEOPLE" in changed:
+        # Until the night nginx shows what there was.
+        of = "" if name == "office" else f" --room {name}"
+        todo += [f"rooms-admin {verb}{of}" for verb in ("people", "mine")]
     if todo:
         print(f"it counts after: {'; '.join(todo)}")
     if refusal and "rooms-admin setup" in todo:

@@ -29,9 +29,9 @@ PREFIX = "/door/"
 # The field that names what has come in pieces.
 UPLOAD = "Room-Upload"
 # What may take long, each with its kind.
-LONG_ROUTES = {"below": "walk", "closed": "walk", "find": "walk", "folder": "walk", "goes": "walk",
-               "latest": "walk", "pages": "picture", "remove": "walk", "search": "search",
-               "upload": "place", "would": "walk", "zip": "zip"}
+LONG_ROUTES = {"below": "walk", "closed": "level", "find": "walk", "folder": "level",
+               "goes": "walk", "latest": "walk", "pages": "picture", "remove": "walk",
+               "search": "search", "upload": "place", "would": "walk", "zip": "zip"}
 # Behind what a query may stand.
 _ASKING = ("below", "find", "goes", "pages", "search", "upload", "zip")
 # Behind what no path stands.

@@ -57,6 +57,17 @@ class Copy:
     folder: str = ""
     place: str = ""
     server: commands.Child | None = None
+    # When each of those has asked for it who did so lately.
+    asked: dict[str, float] = field(default_factory=dict)
+
+    def is_asked_for(self, asker: str) -> None:
+        self.used = time.monotonic()
+        self.asked[asker] = self.used
+
+    def askers(self) -> set[str]:
+        then = time.monotonic() - MAY_GO
+        self.asked = {asker: at for asker, at in self.asked.items() if at > then}
+        return set(self.asked)
 
     def is_late(self) -> bool:
         """Its disk hangs or is too slow, and nobody waits for it any more: it keeps no place, and
@@ -117,7 +128,7 @@ class Copies:
     def is_any(self) -> bool:
         return bool(self._open)
 
-    def opened(self, room: Nights, night: str, backup: str) -> str:
+    def opened(self, room: Nights, night: str, backup: str, asker: str = "") -> str:
         """The path of its socket. Whoever comes while it is opened waits for that."""
         key = (room.name, night)
         try:
@@ -133,9 +144,9 @@ class Copies:
                 if found is not None:
                     self._open.pop(key).end()
                 found = Copy(megabytes, source)
-                out = self._make_place(found.megabytes)
+                out = self._make_place(found.megabytes, asker)
                 self._open[key] = found
-            found.used = time.monotonic()
+            found.is_asked_for(asker)
         if is_new:
             for one in out:
                 one.end()
@@ -146,21 +157,33 @@ class Copies:
             raise Ends(found.said, f"{night} isn't open")
         return found.place
 
-    def _make_place(self, megabytes: int) -> list[Copy]:
+    def _make_place(self, megabytes: int, asker: str = "") -> list[Copy]:
         """What has to go for one more, the one first that was asked least lately, of those that
-        may."""
+        may, or else of those that one asker alone keeps, who would still have more than this."""
         if megabytes > MEMORY:
             raise Ends("large", f"it needs {megabytes} MB, and all together have {MEMORY} MB")
         out: list[Key] = []
         rest = sorted((pair for pair in self._open.items() if not pair[1].is_late()),
                       key=lambda pair: pair[1].used)
         while len(rest) >= MOST or sum(one.megabytes for _, one in rest) + megabytes > MEMORY:
-            found = next((pair for pair in rest if pair[1].may_go()), None)
+            found = next((pair for pair in rest if pair[1].may_go()), None) \
+                or self._of_who_keeps_most(rest, asker)
             if found is None:
                 raise Ends("busy", "too many nights are open")
             rest.remove(found)
             out.append(found[0])
         return [self._open.pop(key) for key in out]
+
+    @staticmethod
+    def _of_who_keeps_most(rest: list[tuple[Key, Copy]], asker: str) -> tuple[Key, Copy] | None:
+        own = sum(asker in one.askers() for _, one in rest)
+        alone: dict[str, list[tuple[Key, Copy]]] = {}
+        for pair in rest:
+            who = pair[1].askers()
+            if pair[1].known.is_set() and len(who) == 1:
+                alone.setdefault(who.pop(), []).append(pair)
+        most = max(alone.values(), key=len, default=list[tuple[Key, Copy]]())
+        return most[0] if len(most) > own + 1 else None
 
     def _open_one(self, key: Key, room: Nights, backup: str, made: Copy) -> None:
         try:

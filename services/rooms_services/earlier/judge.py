@@ -2,8 +2,10 @@
 reading request of docs/http.md as it would have been answered that night. This process reads no
 file and reaches no backup: it asks today's room, as nginx does, and copies that others have
 opened."""
+import hashlib
 import os
 import re
+import secrets
 import socket
 import threading
 import traceback
@@ -57,6 +59,7 @@ class Judge:
         self._lock = threading.Lock()
         self._rooms: dict[str, Today] = {}
         self._zips = threading.BoundedSemaphore(ZIPS)
+        self._secret = secrets.token_bytes(16)
         # How many of these there are.
         self.under_way = 0
 
@@ -106,14 +109,20 @@ class Judge:
                 ) -> Answer:
         """A copy whose server was killed, or hangs, is opened anew; once for one request."""
         look = Look(today.room, user, word, path)
+        asker = self._asker(name, user)
         try:
-            return look.answer(lambda: gate.opened(name, night), PATIENCE)
+            return look.answer(lambda: gate.opened(name, night, asker), PATIENCE)
         except Stop as stop:
             if stop.why not in ("room-ended", "room-hangs", "no-room") or look.then is None:
                 raise
         gate.ended(name, night)
         look = Look(today.room, user, word, path)
-        return look.answer(lambda: gate.opened(name, night), PATIENCE)
+        return look.answer(lambda: gate.opened(name, night, asker), PATIENCE)
+
+    def _asker(self, room: str, user: str) -> str:
+        """By which whoever opens nights sees how many somebody keeps open, and not who that is."""
+        return hashlib.blake2b(f"{room} {user}".encode(), digest_size=8,
+                               key=self._secret).hexdigest()
 
     def one(self, connection: socket.socket) -> None:
         connection.settimeout(10)

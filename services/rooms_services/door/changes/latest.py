@@ -49,7 +49,7 @@ class Latest:
 
     def _may(self, folder: Node, reply: Reply) -> None:
         may = reply.rulings()
-        if may.get("r") and may.get("x"):
+        if may.get("r") and may.get("x") and self.walk.goes_into(folder):
             self._open(folder)
 
     def _open(self, folder: Node) -> None:

@@ -6,6 +6,7 @@ import time
 from typing import NamedTuple
 
 from ...room.paths import Names
+from ..tables import need_own
 from .order import Order
 
 ROOT = 0
@@ -113,6 +114,7 @@ class Store:
         if self._db.execute("PRAGMA user_version").fetchone()[0] not in (0, VERSION):
             raise sqlite3.DatabaseError("it is of another version")
         self._db.executescript(_TABLES)
+        need_own(self._db, _TABLES)
         if not self._has_names:
             self._db.execute("UPDATE node SET who = NULL WHERE who IS NOT NULL")
             self._db.execute("DELETE FROM who")

@@ -132,7 +132,7 @@ class Archive:
     def _may(self, node: Node, reply: Reply) -> None:
         may = reply.rulings()
         node.is_open = may.get("x", False)
-        if not may.get("r"):
+        if not may.get("r") or node.is_folder and not self.walk.goes_into(node):
             self.left_out.append(node)
         elif node.is_folder:
             self.folders.append(node)

@@ -84,7 +84,7 @@ class Below:
             self.walk.ask(self.dacl, node)
         if may.get("t"):
             self.walk.ask(self.attr, node)
-        if may.get("r"):
+        if may.get("r") and (node in self.way or self.walk.goes_into(node)):
             self.walk.ask(self.list, node)
         elif node.is_folder:
             self.unlisted.append(node)

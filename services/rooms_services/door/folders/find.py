@@ -39,8 +39,8 @@ class Find:
         self._children(top, listing)
         self.walk.run(lambda: not self._is_enough())
         refuse_long(self.found + self.unlisted)
-        is_all = not self.walk.asked and not self.walk.is_too_much() \
-            and len(self.found) <= MOST_FOUND
+        is_all = not (self.walk.asked or self.walk.is_cut or self.walk.is_too_much()
+                      or len(self.found) > MOST_FOUND)
         return told_as_it_comes({
             "all": is_all, "at": top.path, "unlisted": (node.path for node in self.unlisted),
             "found": ({"kind": node.kind, "path": node.path} for node in self.found[:MOST_FOUND])})
@@ -67,7 +67,8 @@ class Find:
         may = reply.rulings()
         node.is_open = may.get("x", False)
         if may.get("r"):
-            self.walk.ask(self.list, node)
+            if self.walk.goes_into(node):
+                self.walk.ask(self.list, node)
         else:
             self.unlisted.append(node)
 

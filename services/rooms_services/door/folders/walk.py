@@ -15,6 +15,9 @@ from ...room.room import Filling, Reply, Room, Row, listed, question, too_many
 MOST = 80_000
 MOST_NAMED = 8_388_608
 SECONDS = 45.0
+# How far down a walk looks into folders: each question names the whole path, and one level comes
+# after the other. So whoever may add thousands in one another keeps nobody waiting.
+DEEPEST = 100
 # How many bytes the paths in one answer have, which may be many times those of their names.
 MOST_TOLD = 33_554_432
 # Bytes of memory that an object takes, and each byte of its name, of which a letter of another one
@@ -41,6 +44,12 @@ class Node:
     list: bytes | None = None
     owner: str | None = None
     group: str | None = None
+    # Below where the walk began.
+    depth: int = 0
+
+    def __post_init__(self) -> None:
+        if self.above:
+            self.depth = self.above.depth + 1
 
     @property
     def kind(self) -> str:
@@ -73,6 +82,8 @@ class Walk:
         self.room = room
         self.user = user
         self.seen = 0
+        # Whether there was more to look at further down.
+        self.is_cut = False
         self.named = 0
         self._held = 0
         self.asked: deque[tuple[Step, Node]] = deque()
@@ -125,6 +136,12 @@ class Walk:
 
     def is_late(self) -> bool:
         return time.monotonic() > self.until
+
+    def goes_into(self, folder: Node) -> bool:
+        """Whether what is in it is looked at."""
+        is_deep = folder.depth >= DEEPEST
+        self.is_cut = self.is_cut or is_deep
+        return not is_deep
 
     def is_too_much(self) -> bool:
         return self.seen > MOST or self.named > MOST_NAMED

@@ -4,10 +4,18 @@ import threading
 from collections.abc import Callable, Iterator
 from contextlib import AbstractContextManager, contextmanager
 
+from rooms_admin.room import in_parts
+
 from ...room.answers import Stop
 from ...room.paths import Names
 from ...room.room import Room, about
 from ...room.turns import PATIENCE
+
+
+def whole_of(names: Names) -> Names:
+    """The document whose part has this name, if that has the form of a part's; else nothing."""
+    name = in_parts.whole_of(names[-1]) if names else ""
+    return (*names[:-1], name) if name else ()
 
 
 class Held:
@@ -24,8 +32,9 @@ class Held:
     @contextmanager
     def alone(self, *all_of: Names, may_wait: Callable[[], bool] = lambda: True
               ) -> Iterator[None]:
-        """Whoever may not wait goes on at once, and is denied."""
-        names = set(all_of)
+        """Whoever may not wait goes on at once, and is denied. A part is held with its document:
+        that may not be there yet."""
+        names = {*all_of, *filter(None, map(whole_of, all_of))}
         if not self.is_free(names) and not may_wait():
             yield
             return

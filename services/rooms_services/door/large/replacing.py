@@ -157,7 +157,12 @@ class Writing:
         """The one request that all depends on. Where no answer comes, nothing is taken back: it may
         have been done."""
         with self.room.talk(self.user) as talk:
+            is_whole = all(large.is_there(talk.ask, large.part(self.names, number)) for number
+                           in large.resting(sorted(now.numbers), talk.rest, self.names))
             self.look(talk)
+            if not is_whole:
+                raise Stop(503, "busy", "somebody removed a part of it meanwhile; nothing was done",
+                           fields={"Retry-After": "1"})
             made, written = self.made, self.written
             self.made, self.written = [], []
             reply = talk.ask(about("PUT", "doc", self.names, body=now.text()))

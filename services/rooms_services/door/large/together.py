@@ -15,7 +15,7 @@ from ...room.room import Ask, Reply, Room, about
 from ..folders import matched
 from ..folders.goes import barrier
 from ..folders.would import Would
-from .held import alone
+from .held import alone, whole_of
 from .replacing import refused
 
 
@@ -33,6 +33,7 @@ def remove(ask: Asks, names: Names, rest: Rest | None = None) -> Reply:
     """The parts first, so that none is left of what is gone. One of it that can't go is emptied.
     What each of them allows is asked before: very many may be somebody else's, and have no more
     than the name of one."""
+    _refuse_part(ask, names)
     count = large.count_of(ask, names, rest)
     above = _may_above(ask, names) if count else Reply(404, b"")
     if _may_go(ask, names, above):
@@ -59,6 +60,13 @@ def remove_left(ask: Asks, names: Names, rest: Rest | None = None) -> Reply:
     return reply
 
 
+def _refuse_part(ask: Asks, names: Names) -> None:
+    """Whoever saw it as a document of its own saw it before its document was written."""
+    whole = whole_of(names)
+    if whole and large.is_document(ask, whole):
+        raise Stop(412, "changed", "it is a part of a document that is there by now", shown(whole))
+
+
 def _may_above(ask: Asks, names: Names) -> Reply:
     return ask(about("GET", "can", names[:-1], "Dw"))
 
@@ -74,6 +82,7 @@ def _may_go(ask: Asks, names: Names, above: Reply) -> bool:
 def move(ask: Asks, names: Names, to: Names, rest: Rest | None = None) -> Reply:
     """The document last: it is where it was until all of it is at the new place. What isn't of it,
     and has no more than the name of a part, stays where it may not be moved."""
+    _refuse_part(ask, names)
     count = large.count_of(ask, names, rest) if names and to else 0
     if not count or large.is_there(ask, to) or not _may(ask, to[:-1], "w"):
         return ask(moving(names, to))

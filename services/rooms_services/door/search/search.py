@@ -94,7 +94,7 @@ class Search:
     def _folder(self, node: Node, reply: Reply) -> None:
         may = reply.rulings()
         node.is_open = may.get("x", False)
-        if may.get("r") and node.is_open:
+        if may.get("r") and node.is_open and self.walk.goes_into(node):
             self.walk.ask(self.list, node)
 
     def _part(self, part: Node, reply: Reply) -> None:
@@ -130,7 +130,7 @@ class Search:
         self._vouched()
         self._children(top, listing)
         self.walk.run(lambda: not (self.walk.is_late() or self.walk.is_too_much()))
-        is_all = not self.walk.asked and not self.walk.is_too_much()
+        is_all = not (self.walk.asked or self.walk.is_cut or self.walk.is_too_much())
         copy = self._vouched()
         known = self._known()
         if self._vouched() != copy:

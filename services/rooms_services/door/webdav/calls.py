@@ -69,6 +69,14 @@ class Call:
         return self.room.denials.note(
             self.user, self._talk.ask(ask) if self._talk else self.room.ask(self.user, ask))
 
+    def way(self, names: Names) -> tuple[bool, bool]:
+        """Whether the way there is open, and whether something is there. The caller asked for
+        nothing there, so no denial of it counts: how many they have left would tell of a lock."""
+        can = about("GET", "can", names)
+        reply = self._talk.ask(can) if self._talk else self.room.ask(self.user, can)
+        is_there = reply.status == 200
+        return is_there or reply.status == 404 and objects.is_about(reply, names), is_there
+
     def row(self, asks: list[Ask]) -> list[Reply]:
         """Only of what changes nothing."""
         if self._talk:
@@ -117,14 +125,18 @@ class Drive:
     def settle(self, call: Call, names: Names) -> None:
         """The empty document that a lock on a name promised comes to the room."""
         lock = self.pending(call.user, names)
-        if lock is None or lock.refused:
+        if lock is None or lock.refused or objects.look(call, names, False) is not None:
             return
-        if objects.look(call, names, False) is None:
-            reply = call.ask(about("PUT", "doc", names))
-            if reply.status not in (201, 204):
-                raise stop_of(reply, {404: 409})
-        lock.pending = False
-        self.locks.keep(lock)
+        reply = call.ask(about("PUT", "doc", names))
+        if reply.status not in (201, 204):
+            raise stop_of(reply, {404: 409})
+        self.came(call, names)
+
+    def came(self, call: Call, names: Names) -> None:
+        """By who has the lock: it is one of what is there."""
+        if lock := self.pending(call.user, names):
+            lock.pending = False
+            self.locks.keep(lock)
 
     def spending(self) -> Spend:
         """A copy is many documents in one request, and the room may be full after a few."""
@@ -205,22 +217,37 @@ class Drive:
             there += [lock for lock in self.locks.covering(names[:-1]) if not lock.deep]
         if tree:
             there += self.locks.below(names)
-        for lock in there:
+        if there and not call.way(names)[0]:
+            # The room says what stands against it, in its own order: nobody learns of a lock behind
+            # a folder that denies them the way.
+            return
+        # (what is reserved comes first: it may be what a pending one was for)
+        for lock in sorted(there, key=lambda one: not one.passing):
             if late and lock.passing or lock.token in call.tokens or lock.shared and any(
                     other.token in call.tokens for other in there if other.names == lock.names):
                 continue
-            self._passes(call, names)
+            if not late and self.is_over(call, lock):
+                continue
             if told := self._told(call, names, lock):
                 raise Stop(423, "locked", told)
 
     def _told(self, call: Call, names: Names, lock: Lock) -> str:
         """A lock is named where the way to it is open. Of another one nobody is told who may not
-        move or remove what it is in: the room says that, as where nothing is locked."""
-        if call.ask(about("GET", "can", lock.names)).status != 403:
+        move or remove what it is in, as nobody may the root: the room says that, as where nothing
+        is locked."""
+        if call.way(lock.names)[0]:
             return f"locked by {lock.user}: {lock.path}"
-        if trees.kept(call, [(names, True)]):
+        if not names or trees.kept(call, [(names, True)]):
             return ""
         return f"something in it is locked: {shown(names)}"
+
+    def is_over(self, call: Call, lock: Lock) -> bool:
+        """Ends a lock of a name at which something is by now, that came by another way: it took no
+        right to that."""
+        is_over = lock.pending and call.way(lock.names)[1]
+        if is_over:
+            self.locks.end(lock)
+        return is_over
 
     def told_in(self, call: Call, names: Names) -> dict[str, list[Lock]]:
         """The locks of what is in a folder, by its names. Whoever sees names in a folder and comes
@@ -231,12 +258,6 @@ class Drive:
                 if len(lock.names) == len(names) + 1:
                     found.setdefault(lock.names[-1], []).append(lock)
         return found
-
-    def _passes(self, call: Call, names: Names) -> None:
-        """Nobody learns of a lock behind a folder that denies them the way."""
-        reply = call.ask(about("GET", "can", names))
-        if reply.status == 403:
-            raise stop_of(reply)
 
     @contextmanager
     def reserved(self, call: Call, *places: Names) -> Iterator[None]:

@@ -6,6 +6,8 @@ import threading
 from collections.abc import Iterator
 from contextlib import contextmanager
 
+from ..tables import need_own
+
 _TABLES = """
 create table if not exists lock (token text primary key, user text, path text, deep integer,
   shared integer, owner text, seconds integer, until real, pending integer, refused integer,
@@ -71,6 +73,7 @@ def _opened(file: str) -> sqlite3.Connection:
         # (a power cut takes the whole file, which is in memory)
         base.execute("pragma synchronous = off")
         base.executescript(_TABLES)
+        need_own(base, _TABLES)
     except BaseException:
         base.close()
         raise

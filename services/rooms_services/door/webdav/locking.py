@@ -1,6 +1,7 @@
 """LOCK and UNLOCK."""
-from . import bodies, objects, properties
+from . import bodies, objects, properties, trees
 from ...room.answers import Answer, Stop
+from ...room.paths import Names
 from .bodies import Node
 from .calls import Call, Drive
 from .locks import Lock, seconds_of
@@ -26,10 +27,12 @@ def _new(drive: Drive, call: Call, root: Node, deep: bool, seconds: int) -> Answ
     if scope is None or not (scope.first("exclusive") or scope.first("shared")):
         raise Stop(422, "bad-lock", "such a lock isn't known")
     found = _lockable(drive, call)
-    if isinstance(found, Folder) and deep:
-        # It would also hold what is in it and closed to this user. Who may change the folder's list
-        # could keep others out anyway.
-        objects.may(call, call.names, "C")
+    # (nothing else has something below it, and what isn't there yet may become a folder)
+    deep = deep and isinstance(found, Folder)
+    if deep:
+        _may_hold(call, call.names)
+    for lock in drive.locks.covering(call.names) + (drive.locks.below(call.names) if deep else []):
+        drive.is_over(call, lock)
     held = drive.locks.add(call.user, call.names, deep, scope.first("shared") is not None,
                            _owner(call, root), seconds)
     if held is None:
@@ -57,6 +60,14 @@ def _lockable(drive: Drive, call: Call) -> Folder | Document | None:
     return found
 
 
+def _may_hold(call: Call, names: Names) -> None:
+    """A folder with all below it, also what is closed to this user. Who may change its list could
+    keep others out anyway, and who may remove it is told that something in it is locked."""
+    objects.may(call, names, "C")
+    if not names or trees.kept(call, [(names, True)]):
+        raise Stop(403, "denied", "it may not be removed, so it can't be locked with all below it")
+
+
 def _owner(call: Call, root: Node) -> str:
     owner = root.first("owner")
     text = bodies.legal(owner.text) + "".join(map(bodies.copied, owner.children)) if owner else ""
@@ -75,11 +86,15 @@ def _refresh(drive: Drive, call: Call, seconds: int) -> Answer:
 
 def _may_keep(drive: Drive, call: Call, held: Lock) -> None:
     """As for a new one: whoever lost the right keeps it for the rest of its time."""
-    found = drive.look(call, held.names)
-    if held.pending or found is None:
+    found = objects.look(call, held.names, False)
+    if found is None:
         objects.may(call, held.names[:-1], "w")
+        return
+    if held.deep and isinstance(found, Folder):
+        _may_hold(call, held.names)
     else:
-        objects.may(call, held.names, "C" if held.deep and isinstance(found, Folder) else "wa")
+        objects.may(call, held.names, "wa")
+    held.pending = False
 
 
 def _locked(drive: Drive, call: Call, held: Lock, status: int) -> Answer:

@@ -17,21 +17,19 @@ def put(drive: Drive, call: Call) -> Answer:
         with call.alone():
             drive.heed(call)
             _guard_put(drive, call)
-            answer = None if call.upload else _put(call)
+            answer = None if call.upload else _put(drive, call)
             # Somebody else may write it before this one's turn.
             seen = call.ask(about("GET", "doc", call.names)) \
                 if call.upload and _is_about_bytes(call) else None
         if call.upload:
             with drive.reserved(call, call.names):
                 answer = replacing.write(call.room, call.user, call.names, call.upload, seen)
+                drive.came(call, call.names)
     except Stop:
         if lock := drive.pending(call.user, call.names):
             lock.refused = True
             drive.locks.keep(lock)
         raise
-    if lock := drive.pending(call.user, call.names):
-        lock.pending = False
-        drive.locks.keep(lock)
     assert answer
     return answer
 
@@ -57,10 +55,11 @@ def _guard_put(drive: Drive, call: Call) -> None:
         drive.guard(call, call.names, member=True)
 
 
-def _put(call: Call) -> Answer:
+def _put(drive: Drive, call: Call) -> Answer:
     reply = replacing.put_small(call.ask, call.names, call.body, call.rest)
     if reply.status not in (201, 204):
         raise stop_of(reply, {404: 409, 409: 405 if reply.why == "wrong-kind" else 409})
+    drive.came(call, call.names)
     return Answer(reply.status, fields={"ETag": tag_of(call.body)})
 
 

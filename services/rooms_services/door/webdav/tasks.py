@@ -2,6 +2,7 @@
 written down before the first of them, so that it is ended at the next look if the door is killed or
 the room goes away meanwhile: in the name of the same user, who may do it or not."""
 import json
+import re
 import secrets
 import threading
 import time
@@ -20,6 +21,8 @@ from .objects import Asks
 SECONDS = 600.0
 # Of a room that went away, or hangs.
 AWAY = (502, 503, 504)
+# What goes, or stands aside.
+_BESIDE = re.compile(r"~[a-z]+-[0-9a-f]{12}", re.ASCII)
 
 
 def beside(place: Names, word: str) -> Names:
@@ -82,7 +85,9 @@ class Tasks:
                 # (the clock may have been set back meanwhile)
                 if abs(self._now() - since) < SECONDS:
                     made, place, old = (one and tuple(one) for one in json.loads(told))
-                    self._end_one(asks(str(user)), Task(str(user), made, place, old))
+                    # Whoever had the door in their hands may have noted others.
+                    if _BESIDE.fullmatch((old or made)[-1]):
+                        self._end_one(asks(str(user)), Task(str(user), made, place, old))
                 self._end(number)
 
     def _left(self) -> list[Row]:
