@@ -62,7 +62,13 @@ done
 brings new --dry-run latest
 says 'a room that was made since' 0 "later has backups, and no settings in $PWD/new/var/backups"
 holds 'and no other' [ "$(grep -c 'has backups' "$work/err")" = 1 ]
-rm -r new/var/backups/rooms/{invoices,later}
+rm -r new/var/backups/rooms/later
+# Where the site's own room was never made, another one's tar has the machine.
+mv new/var/backups/rooms/2026-11-2*.030000 .
+brings new --dry-run latest
+says "another room's" 0 'would: file /etc/rooms/invoices.conf'
+mv 2026-11-2*.030000 new/var/backups/rooms/
+rm -r new/var/backups/rooms/invoices
 brings new 2026-11-21.030000
 says 'a machine' 0 'file /etc/rooms/invoices.conf'
 says 'what is left: a room' 0 '  rooms-admin restore --room /etc/rooms/invoices.conf latest'

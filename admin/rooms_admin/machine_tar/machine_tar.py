@@ -86,14 +86,19 @@ def lacking(conf: str, tar: Tar) -> list[str]:
     made since has a tar of its own."""
     if "machine/added" in tar.words:
         return []
-    folder, known = _backups_of(conf), {settings.name_of(one) for one in tar.rooms()}
-    there = waiting.answer(waiting.PATIENCE, lambda: sorted(os.listdir(folder)), folder)
-    rows = {name: backups.with_file(f"{folder}/{name}", name, "machine.tar")
-            for name in (there if isinstance(there, list) else [])
-            if names.is_room(name) and name not in known}
+    known = {settings.name_of(one) for one in tar.rooms()}
+    rows = {name: some for name, some in _of_each(_backups_of(conf)).items() if name not in known}
     return [f"{name} has backups, and no settings in {tar.place}, as a room that was made since or "
             f"removed: rooms-admin restore --machine {some[-1].place}"
-            for name, some in rows.items() if some]
+            for name, some in rows.items()]
+
+
+def _of_each(folder: str) -> dict[str, list[backups.Backup]]:
+    """The backups with a tar of each room that has a folder below that of all."""
+    there = waiting.answer(waiting.PATIENCE, lambda: sorted(os.listdir(folder)), folder)
+    rows = {name: backups.with_file(f"{folder}/{name}", name, "machine.tar")
+            for name in (there if isinstance(there, list) else []) if names.is_room(name)}
+    return {name: some for name, some in rows.items() if some}
 
 
 def find(conf: str, backup: str) -> str:
@@ -101,6 +106,10 @@ def find(conf: str, backup: str) -> str:
     if backup == "latest":
         backups.need_disk(folder)
         found = backups.with_file(folder, settings.name_of(conf), "machine.tar")
+        if not found and settings.name_of(conf) == "office":
+            # A machine may have rooms for another one's front end alone.
+            found = sorted((some[-1] for some in _of_each(folder).values()),
+                           key=lambda one: one.name)
         if not found:
             raise Refused(f"no machine: no backup in {folder} has a machine.tar")
         backup = found[-1].place
