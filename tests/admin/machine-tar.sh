@@ -13,6 +13,12 @@ printf '%s\n' '#!/bin/sh' "printf '7\tSun Jan 31 18:00:00 2027 a root\n'" >bin/a
 printf '%s\n' '#!/bin/sh' '[ "$*" = "-c 7" ] && echo "htpasswd -D /etc/nginx/rooms.htpasswd eve"' \
   >bin/at
 chmod 755 bin/at bin/atq
+echo '10.0.0.9 b.example' >old/etc/hosts
+printf '%s\n' TITLE=x ON=b.example >old/etc/rooms/there.on
+saves old machine.tar
+tar -xOf machine.tar machine/about >got
+holds 'where another machine is' grep -q 'etc/hosts:10.0.0.9 b.example$' got
+rm old/etc/hosts old/etc/rooms/there.on
 saves old machine.tar
 holds 'it is kept' [ "$status" = 0 -a ! -s "$work/err" -a ! -s "$work/out" ]
 tar -tf machine.tar >got
