@@ -16,7 +16,7 @@ from ..passwords import passwords
 from ..backup import backups, restoring
 from ..people.coming_back import ComingBack
 from . import machine, machine_tar
-from ..cli.report import Refused, Stop, say
+from ..cli.report import Interrupted, Refused, Stop, say
 from ..host.root import ROOT
 from .machine_tar import File, Tar, setting_of
 
@@ -207,8 +207,12 @@ def start_all(tar: Tar) -> int:
             room = settings.room(conf)
             if not os.path.lexists(room.file):
                 coming = ComingBack(room, False)
-                restoring.restore_room(conf, "latest", False, True, coming.look)
+                # One that was enabled before its room was here is started again and again.
+                is_up = server.state(room) not in ("inactive", "failed")
+                restoring.restore_room(conf, "latest", is_up, True, coming.look)
                 coming.tell()
+        except Interrupted:
+            raise
         except (Stop, OSError) as fault:
             say(str(fault))
             failed += 1
