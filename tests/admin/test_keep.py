@@ -191,7 +191,11 @@ class Whole(Folder):
             for word in (place, "2026-01-02.040000"):
                 self.assertRaisesRegex(Refused, f"^{why}$", backups.find, self.room, word)
             breaks()
-        # The program has looked into it there, and brought the log into the file.
+        # The program has looked into it there, and brought the log into the file, if it wasn't.
+        with open(log, "wb") as file:
+            file.write(b"x" * 41)
+        self.assertEqual(backups.find(self.room, "latest"), place)
+        os.unlink(log)
         os.utime(f"{place}/{self.room.base}")
         self.assertEqual(backups.find(self.room, "latest"), place)
 

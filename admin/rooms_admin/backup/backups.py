@@ -21,6 +21,8 @@ DATED = re.compile(r"\d{4}-\d\d-\d\d\.\d{6}", re.ASCII)
 # Beside the two files: which run it was, and how large they are. Both are written once the copy was
 # found sound. (Who copies a folder by names may be cut off between a room's file and its log.)
 RUN, FILES = "run", "files"
+# What the program leaves of a log that it has brought into the file.
+_EMPTY_LOG = 41
 # A clock may be ahead for a night. Where it is further from the last backup than that, what would
 # be lost by its date stays, until the next night.
 TRUSTED = datetime.timedelta(7)
@@ -172,7 +174,7 @@ def _not_whole(within: int, file: str) -> str:
     there = os.listdir(within)
     for name, size in sizes.items():
         has = os.lstat(name, dir_fd=within).st_size if name in there else 0
-        if has < size:
+        if has < size and has != _EMPTY_LOG:
             return f"{name} has {has} of {size} bytes"
     return ""
 

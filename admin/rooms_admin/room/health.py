@@ -59,10 +59,12 @@ def answer(room: Room, patience: float = 0) -> str:
 
 
 def _stays(unit: str) -> bool:
-    said = dict(line.split("=", 1) for line in server.systemctl(
-        "show", "-p", "NRestarts", "-p", "ActiveEnterTimestampMonotonic", unit)[1].splitlines())
-    began = int(said.get("ActiveEnterTimestampMonotonic") or 0) / 1e6
-    return int(said.get("NRestarts") or 0) < TRIES or time.monotonic() - began > STAYS
+    said = server.systemctl("show", "-p", "NRestarts", "-p", "ActiveEnterTimestampMonotonic",
+                            unit)[1]
+    found = {name: int(value) for name, _, value in (
+        line.partition("=") for line in said.splitlines()) if value.isdecimal()}
+    began = found.get("ActiveEnterTimestampMonotonic", 0) / 1e6
+    return found.get("NRestarts", 0) < TRIES or time.monotonic() - began > STAYS
 
 
 def units(room: Room) -> str:
