@@ -13,6 +13,12 @@ printf '%s\n' '#!/bin/sh' "printf '7\tSun Jan 31 18:00:00 2027 a root\n'" >bin/a
 printf '%s\n' '#!/bin/sh' '[ "$*" = "-c 7" ] && echo "htpasswd -D /etc/nginx/rooms.htpasswd eve"' \
   >bin/at
 chmod 755 bin/at bin/atq
+echo '10.0.0.9 b.example' >old/etc/hosts
+printf '%s\n' TITLE=x ON=b.example >old/etc/rooms/there.on
+saves old machine.tar
+tar -xOf machine.tar machine/about >got
+holds 'where another machine is' grep -q 'etc/hosts:10.0.0.9 b.example$' got
+rm old/etc/hosts old/etc/rooms/there.on
 saves old machine.tar
 holds 'it is kept' [ "$status" = 0 -a ! -s "$work/err" -a ! -s "$work/out" ]
 tar -tf machine.tar >got
@@ -66,7 +72,13 @@ says 'a room that was made since' 0 \
   "made since: rooms-admin restore --machine $PWD/new/var/backups/rooms/later/$later"
 says 'one that was removed' 0 'gone has backups, and was removed before '
 holds 'and no other' [ "$(grep -c 'has backups' "$work/err")" = 2 ]
-rm -r new/var/backups/rooms/{invoices,gone,later}
+rm -r new/var/backups/rooms/{gone,later}
+# Where the site's own room was never made, another one's tar has the machine.
+mv new/var/backups/rooms/2026-11-2*.030000 .
+brings new --dry-run latest
+says "another room's" 0 'would: file /etc/rooms/invoices.conf'
+mv 2026-11-2*.030000 new/var/backups/rooms/
+rm -r new/var/backups/rooms/invoices
 brings new 2026-11-21.030000
 says 'a machine' 0 'file /etc/rooms/invoices.conf'
 says 'what is left: a room' 0 '  rooms-admin restore --room /etc/rooms/invoices.conf latest'

@@ -12,6 +12,7 @@ import time
 from collections.abc import Callable
 
 from ..host import root, waiting
+from ..host.at_socket import AtSocket
 from ..room import awaited, limit, needs, server, settings
 from ..backup import backups, dates, for_search, growth, hours
 from ..directory import guests
@@ -78,12 +79,24 @@ def see_answer(room: Room) -> list[Finding]:
 
 
 def see_door(room: Room) -> list[Finding]:
-    """The web interface needs it. It comes and goes with the room's own unit."""
+    """The web interface needs it. It comes and goes with the room's own unit, and answers at its
+    socket whoever asks, whatever systemd thinks of both."""
     unit = f"rooms-door@{room.name}"
-    if room.unit != f"rooms@{room.name}" or server.state(room) != "active" or printed(
-            ["systemctl", "is-active", unit]) == "active":
+    if room.unit != f"rooms@{room.name}" or server.state(room) != "active":
         return []
-    return [(CRITICAL, f"its door doesn't run: systemctl restart {unit}")]
+    asked = AtSocket(room.door, FAR)
+    try:
+        asked.request("GET", "/door/", headers={"Connection": "close"})
+        asked.getresponse()
+        return []
+    except PermissionError:
+        return [] if printed(["systemctl", "is-active", unit]) == "active" else [
+            (CRITICAL, f"its door doesn't run: systemctl restart {unit}")]
+    except (OSError, http.client.HTTPException) as fault:
+        return [(CRITICAL, f"its door doesn't answer: {fault}: systemctl restart {unit}.socket "
+                 f"{unit}")]
+    finally:
+        asked.close()
 
 
 def see_journal(room: Room) -> list[Finding]:

@@ -95,20 +95,26 @@ def lacking(conf: str, tar: Tar) -> list[str]:
     made since has a tar of its own. An older one would bring back old passwords of all rooms."""
     if "machine/added" in tar.words:
         return []
-    folder, known = _backups_of(conf), {settings.name_of(one) for one in tar.rooms()}
-    there = waiting.answer(waiting.PATIENCE, lambda: sorted(os.listdir(folder)), folder)
+    known = {settings.name_of(one) for one in tar.rooms()}
     rows = []
-    for name in there if isinstance(there, list) else []:
-        if not names.is_room(name) or name in known:
+    for name, some in _of_each(_backups_of(conf)).items():
+        if name in known:
             continue
-        some = backups.with_file(f"{folder}/{name}", name, "machine.tar")
-        if some and (backups.made(some[-1]) or 0) > tar.moment():
+        if (backups.made(some[-1]) or 0) > tar.moment():
             rows.append(f"{name} has backups, and no settings in {tar.place}, as a room that was "
                         f"made since: rooms-admin restore --machine {some[-1].place}")
-        elif some:
+        else:
             rows.append(f"{name} has backups, and was removed before {tar.place}: "
                         "docs/machines.md, Taking a room away")
     return rows
+
+
+def _of_each(folder: str) -> dict[str, list[backups.Backup]]:
+    """The backups with a tar of each room that has a folder below that of all."""
+    there = waiting.answer(waiting.PATIENCE, lambda: sorted(os.listdir(folder)), folder)
+    rows = {name: backups.with_file(f"{folder}/{name}", name, "machine.tar")
+            for name in (there if isinstance(there, list) else []) if names.is_room(name)}
+    return {name: some for name, some in rows.items() if some}
 
 
 def find(conf: str, backup: str) -> str:
@@ -116,6 +122,10 @@ def find(conf: str, backup: str) -> str:
     if backup == "latest":
         backups.need_disk(folder)
         found = backups.with_file(folder, settings.name_of(conf), "machine.tar")
+        if not found and settings.name_of(conf) == "office":
+            # A machine may have rooms for another one's front end alone.
+            found = sorted((some[-1] for some in _of_each(folder).values()),
+                           key=lambda one: one.name)
         if not found:
             raise Refused(f"no machine: no backup in {folder} has a machine.tar")
         backup = found[-1].place

@@ -13,10 +13,10 @@ from contextlib import ExitStack, contextmanager, suppress
 from ..host import commands, locks, safe, waiting
 from ..room import forms, program, server, settings
 from ..passwords import passwords
-from ..backup import restoring
+from ..backup import backups, restoring
 from ..people.coming_back import ComingBack
 from . import machine, machine_tar
-from ..cli.report import Refused, Stop, say
+from ..cli.report import Interrupted, Refused, Stop, say
 from ..host.root import ROOT
 from .machine_tar import File, Tar, setting_of
 
@@ -185,18 +185,34 @@ class Machine:
                        lambda: shutil.rmtree(self.private, ignore_errors=True), self.backups)
 
 
+def _made(tar: Tar) -> list[str]:
+    """The settings of its rooms, but for the site's own where nobody made it: a machine may have
+    rooms for another one's front end alone."""
+    office = "etc/rooms/office.conf"
+    if office not in tar.files or "rooms@office.service" in tar.lines("machine/enabled"):
+        return tar.rooms()
+    kept, file = (setting_of(tar.files[office].data, name) for name in ("BACKUPS", "FILE"))
+    if backups.with_file(ROOT + kept, "office", os.path.basename(file)):
+        return tar.rooms()
+    return [one for one in tar.rooms() if one != office]
+
+
 def start_all(tar: Tar) -> int:
     """What is left on a new machine. What is done already is done again, or changes nothing."""
     failed = 0
     server.systemctl("daemon-reload")
-    for name in tar.rooms():
+    for name in _made(tar):
         conf = f"{ROOT}/{name}"
         try:
             room = settings.room(conf)
             if not os.path.lexists(room.file):
                 coming = ComingBack(room, False)
-                restoring.restore_room(conf, "latest", False, True, coming.look)
+                # One that was enabled before its room was here is started again and again.
+                is_up = server.state(room) not in ("inactive", "failed")
+                restoring.restore_room(conf, "latest", is_up, True, coming.look)
                 coming.tell()
+        except Interrupted:
+            raise
         except (Stop, OSError) as fault:
             say(str(fault))
             failed += 1
@@ -236,7 +252,7 @@ def tell_rest(task: Machine) -> None:
            for name in task.added + task.changed):
         print(f"Passwords are those of {tar.date()}: take away again what was taken away since")
     print("What is left, where this is a new machine (docs/backup.md), which --start does:")
-    for name in tar.rooms():
+    for name in _made(tar):
         print(f"  rooms-admin restore --room {shlex.quote('/' + name)} latest")
     print("  rooms-admin setup; systemctl daemon-reload; nginx -t && "
           "systemctl reload-or-restart nginx")
