@@ -50,13 +50,15 @@ class Over(unittest.TestCase):
             room.owners["letters", "reply"] = "carol"
         self.shown_to = "owners"
         self.opened: list[str] = []
+        self.askers: list[str] = []
         opens = mock.patch.object(gate, "opened", self._opened)
         opens.start()
         self.addCleanup(opens.stop)
         self.judge = judge.Judge()
 
-    def _opened(self, room: str, night: str) -> Opened:
+    def _opened(self, room: str, night: str, asker: str) -> Opened:
         self.opened.append(f"{room} {night}")
+        self.askers.append(asker)
         return Opened(self.shown_to, self.copy)
 
     def deny(self, room: FakeRoom, user: str, path: str, bits: str) -> None:
@@ -370,6 +372,17 @@ class Asked(Over):
                                     "TARGET": f"/earlier/{NIGHT}/doc/letters/reply"})
             self.assertEqual(stopped.exception.status, status, (room, user))
 
+    def test_who_opens_nights_learns_no_name(self) -> None:
+        """But which of them are the same one's."""
+        for user in ("bob", "alice", "bob"):
+            self.told(user, "doc/letters/reply")
+        bob, alice, again = self.askers
+        self.assertRegex(bob + alice, "^[0-9a-f]{32}$")
+        self.assertEqual((bob == again, bob == alice), (True, False))
+        self.judge = judge.Judge()
+        self.told("bob", "doc/letters/reply")
+        self.assertNotEqual(self.askers[-1], bob)
+
     def by_scgi(self, rest: str) -> bytes:
         ours, theirs = socket.socketpair()
         thread = threading.Thread(target=self.judge.one, args=(theirs,))
@@ -451,7 +464,7 @@ class Asked(Over):
             places = [first, self.copy]
             ended: list[str] = []
 
-            def opened(_room: str, _night: str, places: list[str] = places) -> Opened:
+            def opened(_room: str, _night: str, _asker: str, places: list[str] = places) -> Opened:
                 return Opened("owners", places.pop(0))
 
             def ends(room: str, night: str, ended: list[str] = ended) -> None:

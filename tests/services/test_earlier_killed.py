@@ -39,6 +39,7 @@ class Slow(FakeRoom):
 class Nights(socketserver.ThreadingUnixStreamServer):
     """Who opens nights: there is one."""
     daemon_threads = True
+    request_queue_size = 64
     copy = ""
 
 

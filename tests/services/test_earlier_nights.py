@@ -21,25 +21,71 @@ class Places(unittest.TestCase):
         kept = copies.Copies()
         for number in range(copies.MOST):
             kept._open["slow", str(number)] = copies.Copy(10, (0, number))
+        new = copies.Copy(10, (1, 0))
         with self.assertRaises(copies.Ends):
-            kept._make_place(10)
+            kept._make_place(new, "bob")
         for one in kept._open.values():
             one.began -= 2 * copies.PATIENCE
-        self.assertEqual(kept._make_place(10), [])
+        self.assertEqual(kept._make_place(new, "bob"), [])
         self.assertEqual(len(kept._open), copies.MOST)
 
     def test_who_asks_again_and_again(self) -> None:
         """They keep no night from others for longer than ten minutes."""
         kept = copies.Copies()
         for number in range(copies.MOST):
-            one = kept._open["office", str(number)] = copies.Copy(10, (0, number))
-            one.known.set()
-        with self.assertRaises(copies.Ends):
-            kept._make_place(10)
+            self.opens(kept, str(number), str(number))
+        self.assertEqual(self.opens(kept, "another", "bob"), -1)
         for one in kept._open.values():
             one.began -= copies.MAY_STAY
-        self.assertEqual(len(kept._make_place(10)), 1)
-        self.assertEqual(len(kept._open), copies.MOST - 1)
+        self.assertEqual(self.opens(kept, "another", "bob"), 1)
+
+    def opens(self, kept: copies.Copies, night: str, *askers: str, megabytes: int = 10) -> int:
+        """How many have to go for it; -1 if none may."""
+        new = copies.Copy(megabytes, (0, 0))
+        for asker in askers:
+            new.asked[asker] = time.monotonic()
+        new.known.set()
+        try:
+            out = kept._make_place(new, askers[0])
+        except copies.Ends:
+            return -1
+        kept._open["office", night] = new
+        return len(out)
+
+    def test_who_asks_for_all_of_them(self) -> None:
+        """They keep as many as others who want some, and no less."""
+        for both in (("mallory",), ("mallory", "dana")):
+            kept = copies.Copies()
+            self.assertEqual([self.opens(kept, str(n), *both) for n in range(4)], [0] * 4)
+            self.assertEqual(self.opens(kept, "5", *both), -1)
+            self.assertEqual(self.opens(kept, "6", "alice"), 1)
+            self.assertEqual(self.opens(kept, "5", *both), -1)
+            self.assertEqual(self.opens(kept, "7", "alice"), 1)
+            self.assertEqual(self.opens(kept, "8", "alice"), -1)
+            self.assertEqual(self.opens(kept, "9", "bob"), 1)
+            self.assertEqual(self.opens(kept, "10", "bob"), -1)
+            self.assertEqual(len(kept._open), 4)
+
+    def test_what_others_look_at_too(self) -> None:
+        kept = copies.Copies()
+        for number in range(3):
+            self.opens(kept, str(number), "mallory")
+        self.opens(kept, "4", "alice", "mallory")
+        for _, one in zip(range(3), kept._open.values()):
+            one.known.clear()
+        # Nor what is still opened.
+        self.assertEqual(self.opens(kept, "5", "bob"), -1)
+        for one in kept._open.values():
+            one.known.set()
+        self.assertEqual(self.opens(kept, "5", "bob"), 1)
+        self.assertIn(("office", "4"), kept._open)
+
+    def test_who_asks_for_a_large_one(self) -> None:
+        """It takes the memory of all."""
+        kept = copies.Copies()
+        self.assertEqual(self.opens(kept, "1", "mallory", megabytes=1000), 0)
+        self.assertEqual(self.opens(kept, "2", "alice", megabytes=100), 1)
+        self.assertEqual(self.opens(kept, "1", "mallory", megabytes=1000), -1)
 
     def test_nor_comes_later(self) -> None:
         made = copies.Copy(1, (0, 0), began=time.monotonic() - 3 * copies.PATIENCE)
@@ -62,7 +108,7 @@ class Said(unittest.TestCase):
                 ("ready", 502, "away"), ("ready owners", 502, "away")):
             with mock.patch.object(gate, "_told", return_value=line.split()):
                 with self.assertRaises(Stop) as stopped:
-                    gate.opened("office", NIGHT)
+                    gate.opened("office", NIGHT, "0" * 16)
                 self.assertEqual((stopped.exception.status, stopped.exception.why), (status, why))
         with mock.patch.object(gate, "_told", return_value=["nights", "owners", f"{NIGHT}=5"]):
             self.assertEqual(gate.nights("office"),

@@ -6,6 +6,7 @@ import os
 import select
 import threading
 import time
+from collections import Counter
 from collections.abc import Callable
 from concurrent.futures import ThreadPoolExecutor
 from dataclasses import dataclass, field
@@ -51,6 +52,8 @@ class Copy:
     source: tuple[int, int]
     used: float = field(default_factory=time.monotonic)
     began: float = field(default_factory=time.monotonic)
+    # When each asked last.
+    asked: dict[str, float] = field(default_factory=dict)
     # Set when it is known what came of it, which `said` says then.
     known: threading.Event = field(default_factory=threading.Event)
     said: str = ""
@@ -62,6 +65,15 @@ class Copy:
         """Its disk hangs or is too slow, and nobody waits for it any more: it keeps no place, and
         is never served."""
         return not self.known.is_set() and time.monotonic() - self.began > 2 * PATIENCE
+
+    def share(self) -> float:
+        """How much it takes of what all have."""
+        return max(1 / MOST, self.megabytes / MEMORY)
+
+    def holders(self) -> set[str]:
+        """Who has asked lately."""
+        since = time.monotonic() - MAY_GO
+        return {asker for asker, at in self.asked.items() if at > since}
 
     def may_go(self) -> bool:
         """Whoever asks for four nights again and again doesn't keep the others from everybody."""
@@ -106,6 +118,19 @@ def _copied(room: Nights, backup: str, into: str) -> str:
     return os.path.join(into, "room")
 
 
+def _taken_from(open_ones: list[tuple[Key, Copy]], asker: str, share: float
+                ) -> tuple[Key, Copy] | None:
+    """One that goes so that nobody keeps all of them: its holders have more than the asker would
+    have with one more, so it doesn't go to and fro between them."""
+    has: Counter[str] = Counter()
+    for _, one in open_ones:
+        for holder in one.holders():
+            has[holder] += one.share()
+    would = has[asker] + share
+    return next((pair for pair in open_ones if pair[1].known.is_set()
+                 and all(has[holder] > would for holder in pair[1].holders())), None)
+
+
 class Copies:
     def __init__(self) -> None:
         self._open: dict[Key, Copy] = {}
@@ -117,7 +142,7 @@ class Copies:
     def is_any(self) -> bool:
         return bool(self._open)
 
-    def opened(self, room: Nights, night: str, backup: str) -> str:
+    def opened(self, room: Nights, night: str, backup: str, asker: str) -> str:
         """The path of its socket. Whoever comes while it is opened waits for that."""
         key = (room.name, night)
         try:
@@ -133,9 +158,9 @@ class Copies:
                 if found is not None:
                     self._open.pop(key).end()
                 found = Copy(megabytes, source)
-                out = self._make_place(found.megabytes)
+                out = self._make_place(found, asker)
                 self._open[key] = found
-            found.used = time.monotonic()
+            found.used = found.asked[asker] = time.monotonic()
         if is_new:
             for one in out:
                 one.end()
@@ -146,16 +171,18 @@ class Copies:
             raise Ends(found.said, f"{night} isn't open")
         return found.place
 
-    def _make_place(self, megabytes: int) -> list[Copy]:
+    def _make_place(self, new: Copy, asker: str) -> list[Copy]:
         """What has to go for one more, the one first that was asked least lately, of those that
-        may."""
+        may; then of those whose holders all have more than the asker would have."""
+        megabytes = new.megabytes
         if megabytes > MEMORY:
             raise Ends("large", f"it needs {megabytes} MB, and all together have {MEMORY} MB")
         out: list[Key] = []
         rest = sorted((pair for pair in self._open.items() if not pair[1].is_late()),
                       key=lambda pair: pair[1].used)
         while len(rest) >= MOST or sum(one.megabytes for _, one in rest) + megabytes > MEMORY:
-            found = next((pair for pair in rest if pair[1].may_go()), None)
+            found = (next((pair for pair in rest if pair[1].may_go()), None)
+                     or _taken_from(rest, asker, new.share()))
             if found is None:
                 raise Ends("busy", "too many nights are open")
             rest.remove(found)

@@ -47,8 +47,8 @@ def nights(room: str) -> dict[str, object]:
     return {"gone": said[1], "nights": [{"at": int(at), "night": name} for name, _, at in rows]}
 
 
-def opened(room: str, night: str) -> Opened:
-    said = _told(f"open {room} {night}", OPENED)
+def opened(room: str, night: str, asker: str) -> Opened:
+    said = _told(f"open {room} {night} {asker}", OPENED)
     if len(said) != 3 or said[0] != "ready":
         raise _refused("".join(said[:1]))
     return Opened(said[1], said[2])

@@ -2,6 +2,7 @@
 reading request of docs/http.md as it would have been answered that night. This process reads no
 file and reaches no backup: it asks today's room, as nginx does, and copies that others have
 opened."""
+import hashlib
 import os
 import re
 import socket
@@ -57,12 +58,18 @@ class Judge:
         self._lock = threading.Lock()
         self._rooms: dict[str, Today] = {}
         self._zips = threading.BoundedSemaphore(ZIPS)
+        self._key = os.urandom(16)
         # How many of these there are.
         self.under_way = 0
 
     def _today(self, name: str) -> Today:
         with self._lock:
             return self._rooms.setdefault(name, Today(name))
+
+    def _asker(self, user: str) -> str:
+        """A number by which nights are shared out, and which says nothing else. Whoever is a user
+        of several rooms counts once."""
+        return hashlib.blake2b(user.encode(), key=self._key, digest_size=8).hexdigest()
 
     @contextmanager
     def answered(self, fields: dict[str, str]) -> Iterator[Answer]:
@@ -105,15 +112,15 @@ class Judge:
     def _looked(self, today: Today, name: str, user: str, night: str, word: str, path: Names
                 ) -> Answer:
         """A copy whose server was killed, or hangs, is opened anew; once for one request."""
-        look = Look(today.room, user, word, path)
+        look, asker = Look(today.room, user, word, path), self._asker(user)
         try:
-            return look.answer(lambda: gate.opened(name, night), PATIENCE)
+            return look.answer(lambda: gate.opened(name, night, asker), PATIENCE)
         except Stop as stop:
             if stop.why not in ("room-ended", "room-hangs", "no-room") or look.then is None:
                 raise
         gate.ended(name, night)
         look = Look(today.room, user, word, path)
-        return look.answer(lambda: gate.opened(name, night), PATIENCE)
+        return look.answer(lambda: gate.opened(name, night, asker), PATIENCE)
 
     def one(self, connection: socket.socket) -> None:
         connection.settimeout(10)

@@ -1,9 +1,10 @@
 """Opens nights for the judge: it reads backups, and sees nothing of what users ask for or get. It
 writes copies of its own, and reaches no room.
 
-A line comes, and a line goes: 'list ROOM' gets 'nights SHOWN-TO NIGHT=SECONDS ..'; 'open ROOM
-NIGHT' gets 'ready SHOWN-TO PATH', where PATH is the socket of its server; 'end ROOM NIGHT', of one
-that doesn't answer, gets 'ended'. Or it gets 'none', 'busy', 'large', 'damaged', 'failed'."""
+A line comes, and a line goes: 'list ROOM' gets 'nights SHOWN-TO NIGHT=SECONDS ..'; 'open ROOM NIGHT
+ASKER' gets 'ready SHOWN-TO PATH', where PATH is the socket of its server, and ASKER the judge's
+number of who asks; 'end ROOM NIGHT', of one that doesn't answer, gets 'ended'. Or it gets 'none',
+'busy', 'large', 'damaged', 'failed'."""
 import os
 import pwd
 import re
@@ -25,8 +26,8 @@ from .nights import Nights
 
 # Only tests set another one.
 JUDGE = os.environ.get("ROOMS_NIGHTS_ASKS", "rooms-earlier")
-_LINE = re.compile(rb"(?:list ([a-z0-9-]{1,32})|"
-                   rb"(open|end) ([a-z0-9-]{1,32}) (\d{4}-\d\d-\d\d\.\d{6}))\n")
+_LINE = re.compile(rb"(?:list ([a-z0-9-]{1,32})|(open|end) ([a-z0-9-]{1,32}) "
+                   rb"(\d{4}-\d\d-\d\d\.\d{6})(?: ([0-9a-f]{16}))?)\n")
 # Connections at once, and of them about one room: so a disk of backups that hangs keeps nobody
 # waiting who asks for a room whose backups are on another one.
 MOST, OF_ONE = 64, 12
@@ -46,7 +47,7 @@ class Supervisor:
         found = _LINE.fullmatch(line)
         if not found:
             return "not understood"
-        listed, word, name, night = (one.decode() if one else "" for one in found.groups())
+        listed, word, name, night, asker = (one.decode() if one else "" for one in found.groups())
         room = nights.of(listed or name)
         if room is None:
             return "none"
@@ -54,7 +55,8 @@ class Supervisor:
             if listed:
                 rows = [f"{one.name}={one.at}" for one in nights.all_of(room)]
                 return " ".join(["nights", room.shown_to, *rows])
-            return self._end(room, night) if word == "end" else self._open(room, night)
+            return (self._end(room, night) if word == "end"
+                    else self._open(room, night, asker))
 
     @contextmanager
     def _counted(self, word: str) -> Iterator[None]:
@@ -68,13 +70,13 @@ class Supervisor:
             with self._lock:
                 self._asked[word] -= 1
 
-    def _open(self, room: Nights, night: str) -> str:
+    def _open(self, room: Nights, night: str, asker: str) -> str:
         # At each request: a backup that is removed isn't shown any more.
         backup = nights.place_of(room, night)
         if not backup:
             self.copies.close((room.name, night))
             return "none"
-        return f"ready {room.shown_to} {self.copies.opened(room, night, backup)}"
+        return f"ready {room.shown_to} {self.copies.opened(room, night, backup, asker)}"
 
     def _end(self, room: Nights, night: str) -> str:
         self.copies.close((room.name, night))
