@@ -3,12 +3,13 @@ import os
 import tempfile
 import time
 import unittest
+from contextlib import ExitStack, nullcontext
 from unittest import mock
 
 from rooms_admin.backup import backups
 from rooms_admin.room import needs
 from rooms_services import scgi
-from rooms_services.earlier import copies, gate, nights
+from rooms_services.earlier import copies, gate, judge, nights
 from rooms_services.room.answers import Stop
 
 NIGHT = "2026-11-01.030000"
@@ -98,6 +99,29 @@ class Places(unittest.TestCase):
             with self.assertRaises(copies.Ends) as ends:
                 copies.Copies()._start(("office", NIGHT), room, "/x", made)
         self.assertEqual(ends.exception.word, "busy")
+
+
+class Requests(unittest.TestCase):
+    """Of one room, at once."""
+
+    def test_users_with_many_requests(self) -> None:
+        """Two of them keep nobody out, and one has more."""
+        today = judge.Today("office")
+        with ExitStack() as stack:
+            def comes(user: str) -> str:
+                try:
+                    stack.enter_context(today.turn(user, "doc"))
+                except Stop as stop:
+                    return stop.why
+                return ""
+            with mock.patch.object(today.users, "turn", lambda *_: nullcontext()):
+                came = {user: [comes(user) for _ in range(20)].count("")
+                        for user in ("mallory", "dana", "bob", "alice")}
+                self.assertEqual(came, {"mallory": 16, "dana": 8, "bob": 4, "alice": 2})
+                self.assertEqual([comes(user) for user in ("bob", "eve", "carol", "frank")],
+                                 ["too-many-requests", "", "", "busy"])
+        with today.turn("eve", "doc"), today.turn("eve", "doc"):
+            pass
 
 
 class Said(unittest.TestCase):

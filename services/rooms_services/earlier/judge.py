@@ -8,6 +8,7 @@ import re
 import socket
 import threading
 import traceback
+from collections import Counter
 from collections.abc import Iterator
 from contextlib import contextmanager
 
@@ -27,7 +28,7 @@ from .whole import archive
 # Connections at once, and of them about one room: so a room that hangs keeps nobody waiting who
 # asks for another one. ZIPs at once, which may be taken slowly. Seconds until it ends if nobody
 # asks.
-MOST, OF_ONE, ZIPS, IDLE = 64, 24, 8, 600.0
+MOST, OF_ONE, ZIPS, IDLE = 80, 32, 8, 600.0
 # How long a copy may take for an answer. (A server reads nothing of the disk for one.)
 PATIENCE = float(os.environ.get("ROOMS_NIGHTS_PATIENCE", "20"))
 _TARGET = re.compile(r"/earlier/(?:(nights)|(\d{4}-\d\d-\d\d\.\d{6})/(?:(doc|folder|dacl)/([^?]*)|"
@@ -40,17 +41,25 @@ class Today:
     def __init__(self, name: str) -> None:
         self.room = Room(os.path.join(locks.RUN, "rooms", name, "socket"), most=LISTED)
         self.users = Users()
-        self.free = threading.BoundedSemaphore(OF_ONE)
+        self._lock = threading.Lock()
+        self._here: Counter[str] = Counter()
 
     @contextmanager
     def turn(self, user: str, word: str) -> Iterator[None]:
-        if not self.free.acquire(blocking=False):
-            raise Stop(503, "busy", fields={"Retry-After": "10"})
+        """A user may have as many places as would then be left, so those of few never take all."""
+        with self._lock:
+            mine, free = self._here[user], OF_ONE - self._here.total()
+            if not free:
+                raise Stop(503, "busy", fields={"Retry-After": "10"})
+            if mine >= free:
+                raise Stop(429, "too-many-requests", fields={"Retry-After": "1"})
+            self._here[user] += 1
         try:
             with self.users.turn(user, word if word in ("folder", "zip") else ""):
                 yield
         finally:
-            self.free.release()
+            with self._lock:
+                self._here -= Counter((user,))
 
 
 class Judge:
