@@ -173,6 +173,11 @@ if [ "$(id -u)" = 0 ] && mkdir small &&
   head -c 30000000 /dev/zero >small/ballast
   checks 'a full disk of backups' 2 'the disk of backups is full: '
   umount small
+  settings
+  mount -t tmpfs -o nr_inodes=2,mode=755 rooms-small small
+  ln -s "$PWD/run/rooms" small/rooms
+  ROOMS_RUN=$PWD/small checks 'no name is left in /run' 2 "rooms CRITICAL - $PWD/small is full: "
+  umount small
 else
   skip 'a full disk' 'no root, or no mount'
 fi
