@@ -176,9 +176,12 @@ class Left(unittest.TestCase):
     def test_a_task(self) -> None:
         """Only what a move or a removal has put aside is ended in somebody's name."""
         kept = Locked()
-        for told in ([["contracts"], None, None], [["m", "x"], ["a"], ["contracts"]]):
+        for told, since in (([["contracts"], None, None], time.time()), ([1, 2, 3], time.time()),
+                            ([["m", "x"], ["a"], ["contracts"]], time.time()), ({}, "x"),
+                            ([[], None, None], None), ([["~old-0123456789ab"], None, None], "x")):
             kept.rows("insert into task (user, told, since) values ('alice', ?, ?)",
-                      (json.dumps(told), time.time()))
+                      (json.dumps(told), since))
+        kept.rows("insert into task (user, told, since) values (1, 'no', ?)", (time.time(),))
         asked = mock.Mock()
         Tasks(kept).end_those_left(lambda user: asked)
         self.assertEqual((asked.mock_calls, kept.count("task")), ([], 0))

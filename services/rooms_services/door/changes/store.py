@@ -6,8 +6,8 @@ import time
 from typing import NamedTuple
 
 from ...room.paths import Names
-from ..tables import need_own
 from .order import Order
+from .tables import need_own
 
 ROOT = 0
 # What is remembered of the last list of a night that was taken whole, which is its moment, and when

@@ -6,7 +6,7 @@ import threading
 from collections.abc import Iterator
 from contextlib import contextmanager
 
-from ..tables import need_own
+from ..changes.tables import need_own
 
 _TABLES = """
 create table if not exists lock (token text primary key, user text, path text, deep integer,

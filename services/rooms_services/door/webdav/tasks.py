@@ -81,13 +81,10 @@ class Tasks:
             return
         with self._ending:
             for number, user, told, since in self._left():
-                assert isinstance(told, str) and isinstance(since, float)
+                task = _task_of(user, told)
                 # (the clock may have been set back meanwhile)
-                if abs(self._now() - since) < SECONDS:
-                    made, place, old = (one and tuple(one) for one in json.loads(told))
-                    # Whoever had the door in their hands may have noted others.
-                    if _BESIDE.fullmatch((old or made)[-1]):
-                        self._end_one(asks(str(user)), Task(str(user), made, place, old))
+                if task and isinstance(since, float) and abs(self._now() - since) < SECONDS:
+                    self._end_one(asks(task.user), task)
                 self._end(number)
 
     def _left(self) -> list[Row]:
@@ -101,6 +98,17 @@ class Tasks:
         except Stop as stop:
             if stop.status in AWAY:
                 raise
+
+
+def _task_of(user: object, told: object) -> Task | None:
+    """Whoever had the door in their hands may have noted anything: nothing but what a move or a
+    removal puts aside is ended in somebody's name."""
+    try:
+        made, place, old = (one and tuple(map(str, one)) for one in json.loads(str(told)))
+        aside = (old or made)[-1]
+    except (ValueError, TypeError, IndexError):
+        return None
+    return Task(str(user), made, place, old) if made and _BESIDE.fullmatch(aside) else None
 
 
 def _is_there(by: Asks, names: Names) -> bool:
