@@ -269,7 +269,7 @@ printf '# mine\n# mine\n' >wanted
 same 'they stay' got wanted
 # Settings that can't be.
 for wrong in PASSWORDS=ldap HOST=a_b BEHIND=maybe PORT=0 OTHER=x HOST=rooms.example \
-  PASSWORDS=directory PORT=443 FILE=/var/lib/rooms/office.rooms; do
+  PASSWORDS=directory FILE=/var/lib/rooms/office.rooms; do
   cp machine/etc/rooms/hr.conf hr.conf
   printf '%s\n' "$wrong" >>machine/etc/rooms/hr.conf
   tree >before

@@ -20,7 +20,7 @@ from ..room.settings import Room
 DATED = re.compile(r"\d{4}-\d\d-\d\d\.\d{6}", re.ASCII)
 # Beside the two files: which run it was, and how large they are. Both are written once the copy was
 # found sound. (Who copies a folder by names may be cut off between a room's file and its log.)
-RUN, FILES = "run", "files"
+RUN, FILES = "run", "files-of-run"
 # What the program leaves of a log that it has brought into the file.
 _EMPTY_LOG = 41
 # A clock may be ahead for a night. Where it is further from the last backup than that, what would

@@ -5,7 +5,7 @@ import re
 import ssl
 
 from ..backup import backups
-from ..host import changes, commands, root
+from ..host import changes, commands, root, waiting
 from ..room import settings
 from ..site import connections, served, template
 from ..cli.report import Refused
@@ -39,9 +39,13 @@ def is_unmade(conf: str) -> bool:
         return False
     unit = settings.value(conf, "UNIT") or _OFFICE
     wants = f"{root.ROOT}/etc/systemd/system/multi-user.target.wants/{_OFFICE}.service"
-    return (kept.name == "office" and unit == _OFFICE and not os.path.lexists(kept.file)
-            and not os.path.lexists(wants)
-            and not backups.with_file(kept.backups, kept.name, os.path.basename(kept.file)))
+    if (kept.name != "office" or unit != _OFFICE or os.path.lexists(kept.file)
+            or os.path.lexists(wants)):
+        return False
+    try:
+        return not backups.with_file(kept.backups, kept.name, os.path.basename(kept.file))
+    except waiting.Hangs:
+        return False
 
 
 def _shows_a_room() -> bool:

@@ -371,7 +371,7 @@ def see_directory() -> list[Finding]:
 def see_guests() -> list[Finding]:
     """Whose name came into the directory later. Root alone reads how that is asked."""
     found = []
-    with contextlib.suppress(Stop, PermissionError):
+    with contextlib.suppress(Stop, OSError):
         places = [one for one in template.gather(root.ROOT).shown if one.lets_guests]
         asked = Directory(settings.directory(root.ROOT + guests.FILE)) if places else None
         for place in places:

@@ -2,7 +2,6 @@
 members keeps it. The names that the web interface offers are made of it, and groups sees by it
 whether the server has to stop."""
 import contextlib
-import math
 import os
 import re
 import time
@@ -127,10 +126,10 @@ def kept(room: Room) -> Known | None:
     return _noted(room)[1]
 
 
-def _is_since(at: float, night: str) -> bool:
-    """Whether that was after the copy of this night was begun, which then lacks it. What is still
-    to come was noted by a clock that was ahead."""
-    return min(backups.moments(night), default=math.inf) <= at <= time.time()
+def _is_since(at: float, begun: float | None) -> bool:
+    """Whether that was after a night's copy was begun, which then lacks it. What is still to come
+    was noted by a clock that was ahead."""
+    return begun is not None and begun <= at <= time.time()
 
 
 def of_night(room: Room, pairs: set[Pair], newest_one: Newest, written: float,
@@ -138,18 +137,18 @@ def of_night(room: Room, pairs: set[Pair], newest_one: Newest, written: float,
     """What is known once the copy of a night has told who was in groups then: whatever was noted
     since then counts more. Nothing, if a change since then was cut off."""
     at, last = _noted(room)
-    if _is_since(at, night):
+    copied = max((one for one in backups.moments(night) if one <= written), default=int(written))
+    if _is_since(at, copied):
         if last is None:
             return None
         if last.file == which_file(room):
             return replace(last, number=newest_one[0], name=newest_one[1])
-    copied = min(backups.moments(night), default=int(written))
     return _of_copy(room, pairs, newest_one, written, copied)
 
 
 def is_newer(known: Known, last: backups.Backup) -> bool:
     """Its number doesn't say that where the backup came later and its copy was begun before."""
-    if _is_since(known.at, last.name):
+    if _is_since(known.at, backups.made(last)):
         return True
     if known.number is None:
         return known.at >= (backups.made(last) or 0)

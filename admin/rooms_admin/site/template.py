@@ -124,7 +124,6 @@ def _check_alone(site: Site, folder: str) -> None:
     ports: dict[str, str] = {}
     for path, port in ((f"{folder}/{one.name}.conf", one.port) for one in site.rooms
                        if one.port and not one.on):
-        settings.need_own_port(path, port)
         if (first := ports.setdefault(port, path)) != path:
             raise Refused(f"port in use: {first} has {port}")
 

@@ -147,6 +147,8 @@ def run(given: argparse.Namespace) -> int:
         then = values.changed(text, wanted)
         settings.look_at(path, then)
         _need_unit(made, path, wanted.get("UNIT", ""))
+        if wanted.get("PORT") and path.endswith(".conf"):
+            settings.need_own_port(path, wanted["PORT"])
         if not made.root:
             _need_places(path, wanted)
             _need_port(path, then, wanted)
