@@ -20,6 +20,11 @@ rm -r backups/*
 backup '51 hours ago' >/dev/null
 checks 'two nights without' 2 'last good backup 51 h ago'
 rm -r backups/*
+last=backups/$(backup '1 hour ago')
+echo 'number 7' >"$last/run"
+cp -a "$last" "backups/$(date -d '2 days ago' +%F.%H%M%S)"
+checks 'a number that no run has given' 2 "numbers jump: $PWD/$last is number 7, and "
+rm -r backups/*
 checks 'none of a new room' 1 'no backup yet: systemctl start rooms-nightly@office'
 mv backups away
 checks 'no folder of backups' 2 'no folder of backups: '

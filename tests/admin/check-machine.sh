@@ -84,6 +84,8 @@ if [ "$(id -u)" = 0 ]; then
     'nginx: configuration file /etc/nginx/nginx.conf test failed' >refused
   checks 'files that nginx refuses' 2 "nginx refuses its files, and can't start again: \
 unknown directive \"lissten\" in mine.conf:3: mend that line"
+  echo '[emerg] 28#28: host not found in upstream "b.example:8443" in rooms:33' >refused
+  checks 'a machine that is not found' 2 'b.example:8443" in rooms:33: give the name a line in /etc/h'
   : >refused
 else
   skip 'files that nginx refuses' 'this user is not root'
@@ -170,6 +172,11 @@ if [ "$(id -u)" = 0 ] && mkdir small &&
   cp -a backups/* small/backups/
   head -c 30000000 /dev/zero >small/ballast
   checks 'a full disk of backups' 2 'the disk of backups is full: '
+  umount small
+  settings
+  mount -t tmpfs -o nr_inodes=2,mode=755 rooms-small small
+  ln -s "$PWD/run/rooms" small/rooms
+  ROOMS_RUN=$PWD/small checks 'no name is left in /run' 2 "rooms CRITICAL - $PWD/small is full: "
   umount small
 else
   skip 'a full disk' 'no root, or no mount'

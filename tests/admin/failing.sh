@@ -116,13 +116,13 @@ mv root/etc/fstab table
 night
 holds 'a backup before the disk' [ "$status" = 0 ]
 mv table root/etc/fstab
-for asked in latest 'restore --dry-run latest' "restore --dry-run $(newest)" 'get latest /f' \
-  'export --backup latest / out' 'lists /f'; do
+for asked in latest 'restore --dry-run --start latest' "restore --dry-run --start $(newest)" \
+  'get latest /f' 'export --backup latest / out' 'lists /f'; do
   # shellcheck disable=SC2086
   verb ${asked%% *} --room "$PWD/conf" ${asked#"${asked%% *}"}
   says "$asked" 2 'not mounted: '
 done
-verb restore --dry-run --room "$PWD/conf" "$PWD/backups/conf/$(newest)"
+verb restore --dry-run --start --room "$PWD/conf" "$PWD/backups/conf/$(newest)"
 says 'by its path it can be had' 0 'would: restored'
 verb backups --room "$PWD/conf"
 says 'which there are' 1 'not mounted: '

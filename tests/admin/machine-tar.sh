@@ -13,6 +13,12 @@ printf '%s\n' '#!/bin/sh' "printf '7\tSun Jan 31 18:00:00 2027 a root\n'" >bin/a
 printf '%s\n' '#!/bin/sh' '[ "$*" = "-c 7" ] && echo "htpasswd -D /etc/nginx/rooms.htpasswd eve"' \
   >bin/at
 chmod 755 bin/at bin/atq
+echo '10.0.0.9 b.example' >old/etc/hosts
+printf '%s\n' TITLE=x ON=b.example >old/etc/rooms/there.on
+saves old machine.tar
+tar -xOf machine.tar machine/about >got
+holds 'where another machine is' grep -q 'etc/hosts:10.0.0.9 b.example$' got
+rm old/etc/hosts old/etc/rooms/there.on
 saves old machine.tar
 holds 'it is kept' [ "$status" = 0 -a ! -s "$work/err" -a ! -s "$work/out" ]
 tar -tf machine.tar >got
@@ -50,19 +56,29 @@ echo wrong | tee new/var/backups/rooms/2026-11-20.030000/machine.tar \
 cp -Rp new fresh
 tree new >before
 brings new --dry-run latest
-says 'what would be done' 0 'would: new /var/lib/rooms-passwords/rooms.htpasswd'
+says 'what would be done' 0 'would: new file /var/lib/rooms-passwords/rooms.htpasswd'
 says 'and made' 0 'would: file /etc/rooms/invoices.conf'
 tree new >after
 same 'is not done' after before
-# A room that was made since has a tar of its own; one of this tar needs none.
-for name in invoices later; do
-  mkdir -p "new/var/backups/rooms/$name/2026-11-21.040000"
-  cp machine.tar "new/var/backups/rooms/$name/2026-11-21.040000/"
+# A room that was made since has a tar of its own; one of this tar needs none, and that of a room
+# that was removed has old passwords of all.
+later=$(date -d '1 hour' +%F.%H%M%S)
+for place in invoices/2026-11-21.040000 gone/2001-01-01.040000 "later/$later"; do
+  mkdir -p "new/var/backups/rooms/$place"
+  cp machine.tar "new/var/backups/rooms/$place/"
 done
 brings new --dry-run latest
-says 'a room that was made since' 0 "later has backups, and no settings in $PWD/new/var/backups"
-holds 'and no other' [ "$(grep -c 'has backups' "$work/err")" = 1 ]
-rm -r new/var/backups/rooms/{invoices,later}
+says 'a room that was made since' 0 \
+  "made since: rooms-admin restore --machine $PWD/new/var/backups/rooms/later/$later"
+says 'one that was removed' 0 'gone has backups, and was removed before '
+holds 'and no other' [ "$(grep -c 'has backups' "$work/err")" = 2 ]
+rm -r new/var/backups/rooms/{gone,later}
+# Where the site's own room was never made, another one's tar has the machine.
+mv new/var/backups/rooms/2026-11-2*.030000 .
+brings new --dry-run latest
+says "another room's" 0 'would: file /etc/rooms/invoices.conf'
+mv 2026-11-2*.030000 new/var/backups/rooms/
+rm -r new/var/backups/rooms/invoices
 brings new 2026-11-21.030000
 says 'a machine' 0 'file /etc/rooms/invoices.conf'
 says 'what is left: a room' 0 '  rooms-admin restore --room /etc/rooms/invoices.conf latest'
@@ -159,6 +175,14 @@ cp -Rp good tree
 sed -i "s#^FILE=.*#FILE=$PWD/nowhere/F#" tree/etc/rooms/*.conf
 sed -i "s#^PROGRAM=.*#PROGRAM=$rooms#" tree/etc/rooms/*.conf
 pack start.tar
+brings started --start --dry-run "$PWD/start.tar"
+sed -n 's/^would: \(.*systemctl .*\|restored .*\)/\1/p' "$work/out" >got
+{
+  printf "restored $PWD/nowhere/F from latest\n%.0s" 1 2
+  printf 'systemctl %s\n' 'reload-or-restart nginx' "try-restart 'rooms-door@*'" \
+    'enable --now rooms-nightly@office.timer' 'enable --now rooms@office.service'
+} >wanted.start
+same 'what would be done with --start' got wanted.start
 brings started --start "$PWD/start.tar"
 says 'what is left, with --start' 1 "no folder: $PWD/nowhere"
 sed -n 's/^[0-9]* \(systemctl .*\)/\1/p' "$stand/steps" >got

@@ -54,10 +54,12 @@ unit_runs 'which goes on'
 cksum office/* >sums
 restores --dry-run --start good
 says 'what would be done' 0 "would: restored $PWD/office/F from $PWD/backups/good"
-restores --dry-run torn
+restores --dry-run --start torn
 says 'of no sound one' 1 "no backup: verify of $PWD/backups/torn/F gives status"
-restores --dry-run none
+restores --dry-run --start none
 says 'of none' 2 'no backup'
+restores --dry-run good
+says 'what would be refused' 2 "the server runs (rooms is 'active'): --start stops it for a moment"
 restores --dry-run --undo
 says 'of none that was cut off' 2 'bad arguments: --undo has no --dry-run'
 cksum office/* | cmp -s sums -

@@ -34,7 +34,8 @@ holds 'and is read at the next run' [ "$(grep -c 'counts after' "$work/out")" = 
 sets KEEP=14
 told 'the same again' 0 'nothing to change'
 sets --dry-run KEEP=3 DRIVE=yes
-told 'what would be done' 0 'would: new file /etc/rooms/office.conf, with KEEP=3, DRIVE=yes'
+told 'what would be done' 0 'would: new file /etc/rooms/office.conf, with KEEP=3, DRIVE=yes' \
+  'it counts after: rooms-admin setup; systemctl restart rooms-door@office'
 is 'is not done' office.conf "${first[@]}" KEEP=14 TITLE=office HOURS=0
 sets DRIVE=yes 'TITLE=Our office = ours' KEEP=14
 told 'several' 0 'with DRIVE=yes, TITLE=Our office = ours' \
@@ -46,6 +47,13 @@ told 'no names for users' 0 'it counts after: rooms-admin people; rooms-admin mi
 sets PEOPLE=names
 told 'and names again' 0 'with PEOPLE=names'
 sed -i /^PEOPLE=/d $conf
+sets HOURS=24
+told 'hourly copies, whose timer is off' 0 \
+  'it counts after: systemctl enable --now rooms-standby@office.timer'
+sets HOURS=0 SEARCH_SCANS=5
+told 'scans' 0 'it counts after: rooms-admin setup'
+sets SEARCH_SCANS=0
+sed -i /^SEARCH_SCANS/d $conf
 sets LIMIT=300
 told 'a limit' 0 'it counts after: systemctl restart rooms-full@office'
 sets SEARCH=yes
@@ -112,6 +120,7 @@ for wrong in \
   "the port of nginx;PORT=443;bad settings: PORT in ;isn't one of 8780 to 8998, which the firew" \
   "that of an Apache;PORT=8778;bad settings: PORT in ;isn't one of 8780 to 8998" \
   "another room's port;PORT=8790;port in use: ;hr.conf has 8790" \
+  "addresses without commas;MAIL=a@office b@office;bad settings: MAIL in ;isn't addresses with co" \
   "no day;EARLIER_FROM=2026-13-40;bad settings: EARLIER_FROM in ;isn't a day or the name of a b" \
   "no time;EARLIER_FROM=2026-11-20.990000;bad settings: EARLIER_FROM in ;isn't a day or the n"; do
   IFS=';' read -r name value text more <<<"$wrong"
@@ -157,6 +166,10 @@ holds 'nor hidden' [ -z "$(find machine -name '.*')" ]
 # Where no backup can come, it is said now, and not at night.
 mkdir place store run
 printf '%s\n' "FILE=$PWD/place/F" "BACKUPS=$PWD/store" "PROGRAM=$rooms" UNIT=rooms >own.conf
+ROOMS_RUN=$PWD/run "$repo/admin/rooms-admin" set --dry-run --room "$PWD/own.conf" \
+  "BACKUPS=$PWD/none" >"$work/out" 2>"$work/err" </dev/null
+status=$?
+told 'what would be no folder' 0 "no folder: $PWD/none, of BACKUPS in "
 for where in none store; do
   ROOMS_RUN=$PWD/run "$repo/admin/rooms-admin" set --room "$PWD/own.conf" "BACKUPS=$PWD/$where" \
     >"$work/out" 2>"$work/err" </dev/null

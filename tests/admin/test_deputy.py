@@ -1,6 +1,7 @@
 """What a deputy's process hands on by sudo, and what root's hands on to those of other users:
 python3 -m unittest test_deputy."""
 import ctypes
+import errno
 import fcntl
 import os
 import pty
@@ -22,6 +23,7 @@ sys.path.insert(0, ADMIN)
 from rooms_admin.host import (  # noqa: E402
     as_user, commands, handed_on, locks, processes, waiting)
 from rooms_admin.cli.report import Stop  # noqa: E402
+from rooms_admin.passwords import passwords  # noqa: E402
 from rooms_admin.room import program  # noqa: E402
 
 OOM = "/proc/self/oom_score_adj"
@@ -165,6 +167,44 @@ def asks(folder: str, says: int, user: str, until: int = -1) -> None:
                 os.read(until, 1)
     finally:
         os._exit(0)
+
+
+class Full(unittest.TestCase):
+    """A service that was taken over has filled /run."""
+
+    def setUp(self) -> None:
+        made = tempfile.TemporaryDirectory()
+        self.addCleanup(made.cleanup)
+        self.folder = f"{made.name}/run"
+        with locks.lock("rooms@office", 0, self.folder):
+            pass
+        opens = os.open
+
+        def opened(path: str, flags: int, mode: int = 0o777, *, dir_fd: int | None = None) -> int:
+            if flags & os.O_CREAT and path not in os.listdir(self.folder):
+                raise OSError(errno.ENOSPC, "No space left on device", path)
+            return opens(path, flags, mode, dir_fd=dir_fd)
+        full = mock.patch.object(os, "open", opened)
+        full.start()
+        self.addCleanup(full.stop)
+
+    def test_a_lock_that_cannot_be_made(self) -> None:
+        with locks.lock("rooms@office", 0, self.folder):
+            with self.assertRaises(locks.Busy), locks.lock("rooms@office", 0, self.folder):
+                pass
+        with self.assertRaisesRegex(locks.NoPlace, f"^no lock: no name is left .*{self.folder}$"):
+            with locks.lock("rooms@other", 0, self.folder):
+                pass
+
+    def test_somebody_is_shut_out(self) -> None:
+        lock, change = locks.lock, mock.Mock(return_value={"dana"})
+        with mock.patch.object(passwords, "password_files", lambda _: ["F"]), \
+                mock.patch.object(passwords, "_other_of", lambda _: ""), \
+                mock.patch.object(passwords, "_change_one", change), \
+                mock.patch.object(locks, "lock", lambda name, seconds, **more: lock(
+                    name, seconds, self.folder, **more)):
+            self.assertEqual(passwords.change("office", {"dana": None}), {"dana"})
+        change.assert_called_once_with("F", {"dana": None}, False, False)
 
 
 class Turns(unittest.TestCase):

@@ -15,9 +15,10 @@ sys.path.insert(0, os.path.join(os.path.dirname(__file__), "..", "..", "admin"))
 from test_backups import Folder  # noqa: E402
 from rooms_admin.backup import backups, hours, tidying  # noqa: E402
 from rooms_admin.backup.backups import Backup  # noqa: E402
-from rooms_admin.cli.report import Refused, Stop  # noqa: E402
+from rooms_admin.cli.report import Interrupted, Refused, Stop  # noqa: E402
 from rooms_admin.directory import groups  # noqa: E402
 from rooms_admin.host import safe  # noqa: E402
+from rooms_admin.machine_tar import restore_machine  # noqa: E402
 from rooms_admin.people import known, offered  # noqa: E402
 from rooms_admin.room import forms, published  # noqa: E402
 from rooms_admin.room.keep import Keep  # noqa: E402
@@ -35,6 +36,30 @@ class Nights(unittest.TestCase):
                     "2026-11-20.03", "2026-1-2", "2026-11-20 ", " 2026-11-20", "2026-11-2\n",
                     "\uff12026-11-20", "today"):
             self.assertFalse(forms.is_night(bad), bad)
+
+
+class Machines(unittest.TestCase):
+    """What restore --machine --start does of the rest."""
+
+    def test_who_ends_it_ends_all_of_it(self) -> None:
+        tar = unittest.mock.Mock()
+        tar.files = {}
+        tar.rooms.return_value = ["etc/rooms/hr.conf", "etc/rooms/office.conf"]
+        tar.lines.return_value = ["rooms@office.service"]
+        for states, starts in (("activating", True), ("inactive", False)):
+            with unittest.mock.patch.object(restore_machine, "server") as server, \
+                    unittest.mock.patch.object(restore_machine, "commands") as commands, \
+                    unittest.mock.patch.object(restore_machine, "ComingBack"), \
+                    unittest.mock.patch.object(restore_machine.settings, "room") as room, \
+                    unittest.mock.patch.object(restore_machine.restoring, "restore_room",
+                                               side_effect=Interrupted("interrupted")) as put:
+                room.return_value.file = "/none/F"
+                server.state.return_value = states
+                with self.assertRaises(Interrupted):
+                    restore_machine.start_all(tar)
+                self.assertEqual(put.call_args.args[:4],
+                                 ("/etc/rooms/hr.conf", "latest", starts, True))
+                commands.shown.assert_not_called()
 
 
 class Clocks(unittest.TestCase):
@@ -173,6 +198,24 @@ class Whole(Folder):
         os.unlink(log)
         os.utime(f"{place}/{self.room.base}")
         self.assertEqual(backups.find(self.room, "latest"), place)
+
+    def test_nor_is_one_without_its_file(self) -> None:
+        before = self.backup("2026-01-01.040000", 7)
+        place = self.backup("2026-01-02.040000")
+        with safe.opened(safe.folder(place)) as within:
+            backups.give_number(within, 8, self.room.base)
+        os.unlink(f"{place}/{self.room.base}")
+        empty = f"{os.path.dirname(place)}/2026-01-03.040000"
+        os.mkdir(empty, 0o700)
+        found = backups.look(self.room)
+        self.assertEqual([one.place for one in found.backups], [before])
+        self.assertEqual(found.wrong, [
+            f"not whole: {place}: {self.room.base} has 0 of 1 bytes",
+            f"not whole: {empty}: it is empty"])
+        # One of before FILE was another is none of this file.
+        with safe.opened(safe.folder(empty)) as within:
+            backups.give_number(within, 9, "other.rooms")
+        self.assertEqual(len(backups.look(self.room).wrong), 1)
 
 
 if __name__ == "__main__":

@@ -453,7 +453,8 @@ class Verbs(unittest.TestCase):
         self.assertEqual([line.split()[0] for line in out.splitlines()], ["1", "4"])
         self.assertEqual([one["number"] for one in json.loads(self.said(*given, "--json")[1])],
                          [1, 4])
-        self.assertEqual(self.said("backups", "--with", "/x"), (0, "", ""))
+        self.assertEqual(self.said("backups", "--with", "/x"), (
+            1, "", "rooms-admin backups: no object: no backup has /x\n"))
         self.refuses(2, "bad arguments: ", "backups", "--with", "x/")
         os.unlink(f"{self.night}/lists.txt")
         status, out, err = self.said(*given)

@@ -21,7 +21,7 @@ from rooms_admin.cli.report import Refused  # noqa: E402
 from rooms_admin.host import changes, locks, mail, root  # noqa: E402
 from rooms_admin.room import health, server, settings  # noqa: E402
 from rooms_admin.check import finding, front, verb_tell, watched  # noqa: E402
-from rooms_admin.site import certificates, served, setting_up  # noqa: E402
+from rooms_admin.site import certificates, served, setting_up, verb_set  # noqa: E402
 
 
 class Answers(socketserver.StreamRequestHandler):
@@ -86,6 +86,11 @@ class Watched(unittest.TestCase):
                 self.assertIn("the certificate /rooms.pem doesn't count before ", said)
                 with self.assertRaisesRegex(Refused, "too early: .*: is the clock right"):
                     setting_up.look_at_pair(changes.Changes(home, False), *pair)
+            # What setup would refuse isn't written by set.
+            named = {"CERTIFICATE": pair[0], "KEY": f"{home}/none"}
+            text = "".join(f"{name}={value}\n" for name, value in named.items())
+            with self.assertRaisesRegex(Refused, "no file: .*/none doesn't exist"):
+                verb_set._need_pair(changes.Changes(home, False), settings.Front, text, named)
 
     def test_a_certificate_that_nginx_has_not_read(self) -> None:
         with tempfile.TemporaryDirectory() as home, \

@@ -414,6 +414,9 @@ for text in 'certificate --machine' 'add --behind' 'add --on' \
   -mmin 'start "rooms-nightly@' 'now "rooms@$room"'; do
   block_of docs/machines "$text"
 done >>typed
+# A room's file that was removed: machine/removed-file pastes both.
+block_of docs/messages 'kill -STOP' >>typed
+block_of docs/messages 'systemctl kill -s KILL' >>typed
 # The way back to 1.1.0: machine/upgrade pastes it. Swap would be that of the machine below, which
 # stays as it is: it is typed by hand.
 block_of docs/upgrading 'SOCKET=yes DOOR=yes' >>typed

@@ -10,10 +10,13 @@ sock=$PWD/run/rooms/office/socket
 echo "$sock" >"$stand/socket"
 unit start
 
-# nginx is played: it answers as a file says.
+# nginx is played, which answers as a file says, and the room's door.
+mkdir -p run/rooms-door/office
 cat >front.py <<'END'
 import http.server
+import socketserver
 import sys
+import threading
 class Front(http.server.BaseHTTPRequestHandler):
     def do_GET(self):
         with open('front.status') as source:
@@ -29,6 +32,13 @@ class Front(http.server.BaseHTTPRequestHandler):
         self.end_headers()
     def log_message(self, *words):
         pass
+class Door(http.server.BaseHTTPRequestHandler):
+    def do_GET(self):
+        self.send_error(404)
+    def log_message(self, *words):
+        pass
+door = socketserver.ThreadingUnixStreamServer('run/rooms-door/office/socket', Door)
+threading.Thread(target=door.serve_forever, daemon=True).start()
 server = http.server.HTTPServer(('127.0.0.1', 0), Front)
 with open('front.port', 'w') as port:
     port.write(f'{server.server_port}\n')
@@ -50,7 +60,6 @@ mkdir -p root/etc/nginx/{sites-enabled,sites-available} \
 : >failed
 : >again
 echo active >timer
-echo active >door
 echo yes >private
 mv stand/bin/systemctl stand/bin/own
 cat >stand/bin/systemctl <<END
@@ -60,7 +69,6 @@ case "\$*" in
   'list-units '*) cat "$PWD/failed" ;;
   'is-active rooms-nightly@office.timer') cat "$PWD/timer" ;;
   'is-active rooms-connections.service') cat "$PWD/bounded" ;;
-  'is-active rooms-door@office') cat "$PWD/door" ;;
   'show -p MemoryMax --value rooms.slice') echo infinity ;;
   'show -p MemoryMax'*) echo 1073741824 ;;
   'show -p PrivateUsers '*) cat "$PWD/private" ;;

@@ -245,8 +245,10 @@ if has openssl; then
   says 'TLS would be' 0 'would: new file /etc/rooms/site, with CERTIFICATE='
   tree >after
   same 'TLS would be, and is not yet' after before
+  sed -i 's/^HOSTS=.*/HOSTS=one rooms.example/' machine/etc/rooms/site
   sets_up --tls one.pem one.key
   says 'TLS' 0 'new file /etc/nginx/sites-available/rooms'
+  says 'and for which names not' 0 "no certificate: $PWD/one.pem isn't for rooms.example, where"
   holds 'TLS is served' \
     grep -qxE '    listen 443 ssl( http2)?;' machine/etc/nginx/sites-available/rooms
   holds 'by this certificate' \

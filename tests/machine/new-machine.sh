@@ -183,7 +183,7 @@ does 'dates of documents' \
   'printf "%s\n" "[\"letter\", 1700000000123, 5]" 1 >"$(rooms-admin latest)/dates"'
 does 'a look at what would be done' 'rooms-restore --machine --dry-run latest'
 holds 'names the passwords' \
-  grep -qx 'would: new /var/lib/rooms-passwords/rooms.htpasswd' "$work/out"
+  grep -qx 'would: new file /var/lib/rooms-passwords/rooms.htpasswd' "$work/out"
 does 'the machine and its rooms' "$(block docs/backup.md 'do rooms-admin restore --room')"
 holds 'it says that passwords may be back' grep -q '^Passwords are those of 20' "$work/out"
 holds 'it says what is left' \
@@ -246,7 +246,7 @@ does 'for good' "$(block docs/machines.md 'systemctl disable --now "rooms@$room"
 does 'what the old machine serves' '
   for unit in rooms@{office,invoices} rooms-nightly@{office,invoices}.timer; do
     systemctl is-active $unit; done
-  find /etc/systemd/system/*.wants -name "rooms@*" -o -name "rooms-*.timer"
+  find /etc/systemd/system/*.wants -name "rooms@*" -o -name "rooms-*.timer" -o -name "*own-pass*"
   '"$(got $named -u alice:typed $site/doc/last)"
 prints 'is nothing' inactive inactive inactive inactive 502
 cp -a "$machine/var/backups/rooms" moved
@@ -265,8 +265,10 @@ does 'and have all' "$(got $named -u alice:typed $site/doc/last); cat body; echo
   $(got $named -u alice:typed $site/doc/letter)
   $(got $named -u carol:typed $site/invoices/doc/one)
   systemctl is-active rooms@office rooms@invoices \
-    rooms-nightly@office.timer rooms-nightly@invoices.timer"
-prints 'that was answered' 200 farewell 200 200 active active active active
+    rooms-nightly@office.timer rooms-nightly@invoices.timer
+  find /etc/systemd/system/*.wants -name '*own-pass*' -printf '%f\n'"
+prints 'that was answered, and changes of passwords' 200 farewell 200 200 active active active \
+  active rooms-own-password.socket
 
 # To another machine by ssh. Both are this one, with a layer above its disk and a network of its
 # own.

@@ -3,11 +3,13 @@ import unittest
 from typing import Any
 from unittest import mock
 
-from large_over import SMALL, Large, data_of, tag_of
+from large_over import ADD, SMALL, Large, data_of, tag_of
 from over import LOCKINFO
 from rooms_admin.room import in_parts
 from rooms_services.door.large import replacing
+from rooms_services.door.webdav.locks import Lock, Locks
 from rooms_services.room.answers import Answer
+from rooms_services.room.paths import Names
 
 
 class Drive(Large):
@@ -48,6 +50,30 @@ class Drive(Large):
         self.assertEqual(self.dav("PUT", "/p/d", b"small", "bob"), 204)
         self.assertEqual((self.got(), {len(self.judged.bytes_at("p", part))
                                        for part in self.parts()}), (b"small", {0}))
+
+    def test_who_may_not_write_or_remove_it_keeps_nobody_from_it(self) -> None:
+        """Not even as long as their request goes on, again and again."""
+        self.put_list("/p", ADD)
+        self.judged.does("alice", "POST", "/folder/p/f")
+        for folder in ("f", "g"):
+            self.judged.does("alice", "POST", f"/folder/e/{folder}")
+        self.assertEqual(self.put(self.data, "bob", "e/d"), 201)
+        asked = [("PUT", "/p/d", ""), ("COPY", "/e/d", "/p/d"), ("MOVE", "/e/d", "/p/d"),
+                 ("COPY", "/e/f", "/p/f"), ("MOVE", "/e/f", "/p/f"), ("PUT", "/e/d", ""),
+                 ("COPY", "/e/f", "/e/g")]
+        held: list[str] = []
+        reserve = Locks.reserve
+
+        def noted(self: Locks, user: str, names: Names) -> Lock:
+            held.append("/".join(names))
+            return reserve(self, user, names)
+        with mock.patch.object(Locks, "reserve", noted):
+            for method, path, to in asked:
+                status = self.dav(method, path, self.data if method == "PUT" else "", "bob",
+                                  Destination=f"/drive{to}")
+                self.assertIn(status, (204,) if "/p/" not in path + to else (207, 403),
+                              (method, path, to))
+        self.assertEqual(held, ["e/d", "e/d", "e/g"])
 
     def test_two_at_once(self) -> None:
         """Who waits until somebody else has written it has seen another one."""

@@ -280,12 +280,14 @@ class Damaged(Large):
             ("DELETE", f"/door/object/p/{names[0]}"), ("POST", f"/door/move/p/{names[1]}", to))]
 
         def remove() -> None:
-            for thread in threads:
-                thread.start()
+            threads[0].start()
             until = time.monotonic() + 20
             while not any("0002?dDwrx" in one for one in self.judged.seen) \
                     and time.monotonic() < until:
                 time.sleep(0.01)
+            # (of one user two are answered at a time)
+            for thread in threads[1:]:
+                thread.start()
         with self.in_the_middle(remove):
             self.assertEqual(self.put(self.data, path="p/x"), 201)
         for thread in threads:

@@ -219,6 +219,31 @@ class Large(Over):
         for one in threads:
             one.join(30)
 
+    def test_who_asks_again_and_again(self) -> None:
+        """Three users keep nobody else waiting."""
+        today = judge.Today("office")
+        held, said = threading.Event(), list[int]()
+
+        def asks(user: str) -> None:
+            try:
+                with today.turn(user, "doc"):
+                    held.wait(20)
+            except Stop as stop:
+                said.append(stop.status)
+        threads = [threading.Thread(target=asks, args=(f"user{n // 16}",)) for n in range(48)]
+        for one in threads:
+            one.start()
+        until = time.monotonic() + 20
+        while len(said) + today._placed.total() < 48 and time.monotonic() < until:
+            time.sleep(0.01)
+        with today.turn("bob", "doc"), today.turn("carol", "folder"):
+            pass
+        held.set()
+        for one in threads:
+            one.join(30)
+        self.assertEqual((set(said), today._placed.total()), ({503}, 0))
+        self.assertLessEqual(28, len(said))
+
 
 class Another(Over):
     """Another object has taken its name since: no way to what was there."""

@@ -161,6 +161,9 @@ def give_number(within: int, number: int, base: str) -> None:
 def _not_whole(within: int, file: str) -> str:
     """What a room's copy lacks: without its log, or with a part of it, it is the room of an earlier
     moment. Whoever had the program look into it here has brought the log into the file."""
+    there = os.listdir(within)
+    if not there:
+        return "it is empty"
     try:
         with safe.opened(safe.own_file_below(within, FILES)) as listed:
             rows = os.fsdecode(os.read(listed, 2000)).splitlines()
@@ -169,9 +172,9 @@ def _not_whole(within: int, file: str) -> str:
         return ""
     sizes = {name: int(size) for size, _, name in (row.partition(" ") for row in rows)
              if size.isdecimal()}
-    if file not in sizes or os.stat(file, dir_fd=within).st_mtime > noted:
+    # Without it in that list it is another room's, or of before FILE was another.
+    if file not in sizes or (file in there and os.stat(file, dir_fd=within).st_mtime > noted):
         return ""
-    there = os.listdir(within)
     for name, size in sizes.items():
         has = os.lstat(name, dir_fd=within).st_size if name in there else 0
         if has < size and has != _EMPTY_LOG:
@@ -201,13 +204,16 @@ def _look_at(above: str, name: str, file: str, found: Found) -> None:
     try:
         with safe.opened(safe.own_folder(place)) as within:
             what = f"{place}/{file}"
+            is_there = True
             try:
                 with safe.opened(safe.own_file_below(within, file)):
                     pass
             except FileNotFoundError:
-                return
+                is_there = False
             if why := _not_whole(within, file):
                 found.wrong.append(f"not whole: {place}: {why}")
+                return
+            if not is_there:
                 return
             number = 0
             try:

@@ -320,6 +320,8 @@ def _tell_nothing(room: Room, named: str) -> None:
 def would_restore(conf: str, backup: str, start: bool, look: Callable[[Taken], None]) -> None:
     """The backup is verified as it would be; nothing is stopped, and nothing changes."""
     room = settings.room(conf)
+    if not start:
+        refuse_while_served(room)
     with taken_from(room, backups.find(room, backup)) as taken:
         print(f"would: restored {room.file} from {taken.place}")
         look(taken)

@@ -12,7 +12,7 @@ from typing import Any
 
 from ..cli import report, words
 from ..host import safe, waiting
-from ..room import server, settings
+from ..room import names, server, settings
 from . import backups, texts
 from ..lists import asked, dump
 from ..cli.report import Stop, say
@@ -57,6 +57,8 @@ def run(given: argparse.Namespace) -> int:
     rows, wrong = got
     if wanted:
         rows = list(_having(rows, wanted, wrong))
+        if not rows:
+            wrong.append(f"no object: no backup has {names.shown(wanted)}")
     if given.json:
         report.put_rows(rows)
     for one in rows if not given.json else []:

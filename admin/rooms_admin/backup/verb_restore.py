@@ -48,9 +48,11 @@ def bring_back_machine(given: argparse.Namespace) -> int:
         if not task.is_changed():
             print("nothing to change")
     # The rooms' own locks are free again.
-    if given.start and not given.dry_run:
+    if given.start and given.dry_run:
+        restore_machine.would_start(tar)
+    elif given.start:
         return restore_machine.start_all(tar)
-    if task.is_changed() and not given.dry_run:
+    elif task.is_changed() and not given.dry_run:
         restore_machine.tell_rest(task)
     return 0
 

@@ -188,8 +188,10 @@ def refusal() -> str:
     said = changes.nginx_says(PATIENCE)
     if not said:
         return ""
-    return (f"nginx refuses its files, and can't start again: {said}: mend that line, and look by "
-            "nginx -t")
+    # The line is right, and generated.
+    mend = ("give the name a line in /etc/hosts" if "host not found in upstream" in said
+            else "mend that line")
+    return f"nginx refuses its files, and can't start again: {said}: {mend}, and look by nginx -t"
 
 
 def see_files() -> list[Finding]:

@@ -11,7 +11,8 @@ import shutil
 import time
 from collections.abc import Callable
 
-from ..host import root, waiting
+from ..host import locks, root, waiting
+from ..host.at_socket import AtSocket
 from ..room import awaited, limit, needs, server, settings
 from ..backup import backups, dates, for_search, growth, hours
 from ..directory import guests
@@ -78,12 +79,24 @@ def see_answer(room: Room) -> list[Finding]:
 
 
 def see_door(room: Room) -> list[Finding]:
-    """The web interface needs it. It comes and goes with the room's own unit."""
+    """The web interface needs it. It comes and goes with the room's own unit, and answers at its
+    socket whoever asks, whatever systemd thinks of both."""
     unit = f"rooms-door@{room.name}"
-    if room.unit != f"rooms@{room.name}" or server.state(room) != "active" or printed(
-            ["systemctl", "is-active", unit]) == "active":
+    if room.unit != f"rooms@{room.name}" or server.state(room) != "active":
         return []
-    return [(CRITICAL, f"its door doesn't run: systemctl restart {unit}")]
+    asked = AtSocket(room.door, FAR)
+    try:
+        asked.request("GET", "/door/", headers={"Connection": "close"})
+        asked.getresponse()
+        return []
+    except PermissionError:
+        return [] if printed(["systemctl", "is-active", unit]) == "active" else [
+            (CRITICAL, f"its door doesn't run: systemctl restart {unit}")]
+    except (OSError, http.client.HTTPException) as fault:
+        return [(CRITICAL, f"its door doesn't answer: {fault}: systemctl restart {unit}.socket "
+                 f"{unit}")]
+    finally:
+        asked.close()
 
 
 def see_journal(room: Room) -> list[Finding]:
@@ -151,7 +164,7 @@ def see_backups(room: Room) -> list[Finding]:
         return [(CRITICAL, f"no folder of backups: {room.backups}")]
     found = [_space(room.backups, "the disk of backups", server.size_of(room.file))]
     seen = backups.look(room)
-    found += [(CRITICAL, one) for one in seen.wrong]
+    found += [(CRITICAL, one) for one in (*seen.wrong, backups.jump(seen)) if one]
     times = []
     for backup in seen.backups:
         try:
@@ -365,6 +378,11 @@ def see_guests() -> list[Finding]:
             if asked and (both := guests.both(asked, place)):
                 found.append((CRITICAL, guests.told(place, both)))
     return found
+
+
+def see_run() -> list[Finding]:
+    """Where all units and verbs have names: nothing starts without one. A service may fill it."""
+    return [_space(locks.RUN, locks.RUN, 0)]
 
 
 def see_units() -> list[Finding]:

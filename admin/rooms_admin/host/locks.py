@@ -1,5 +1,6 @@
 """One verb at a time for each room. A lock lies where nobody but root gets to: flock asks for no
 right but that to open the file, which others have not."""
+import errno
 import fcntl
 import os
 import stat
@@ -20,6 +21,10 @@ _MOMENT = 0.2
 
 class Busy(Refused):
     """Another verb is at work."""
+
+
+class NoPlace(Refused):
+    """It isn't there, and nobody can make it: so nobody has it."""
 
 
 def taken(number: int, seconds: float) -> bool:
@@ -58,23 +63,38 @@ def _opened(folder: str, others: int, *names: str) -> list[int]:
         os.makedirs(folder, 0o700, exist_ok=True)
         at = os.open(folder, os.O_RDONLY | os.O_DIRECTORY | os.O_NOFOLLOW | os.O_CLOEXEC)
     except OSError as fault:
-        raise Refused(f"no lock: {folder} can't be made: {fault.strerror}") from fault
+        raise _fault(folder, fault) from fault
     try:
         seen = os.fstat(at)
         if seen.st_uid != os.geteuid() or stat.S_IMODE(seen.st_mode) & others:
             raise Refused(f"no lock: {folder} isn't closed to others: rm -r {folder}")
         return [os.open(name, os.O_RDWR | os.O_CREAT | os.O_NOFOLLOW | os.O_CLOEXEC, 0o600,
                         dir_fd=at) for name in names]
+    except OSError as fault:
+        raise _fault(folder, fault) from fault
     finally:
         os.close(at)
 
 
+def _fault(folder: str, fault: OSError) -> Refused:
+    if fault.errno in (errno.ENOSPC, errno.EDQUOT):
+        return NoPlace(f"no lock: no name is left for it in {folder}: df -i {folder}")
+    return Refused(f"no lock: {folder} can't be made: {fault.strerror}")
+
+
 @contextmanager
-def lock(name: str, seconds: float, folder: str = FOLDER, others: int = 0o077) -> Iterator[None]:
+def lock(name: str, seconds: float, folder: str = FOLDER, others: int = 0o077,
+         is_needed: bool = True) -> Iterator[None]:
     """`name` is a unit such as rooms@office, or 'machine'. It ends with the process, whatever
     happens to that; no child gets it, since Python closes what a child isn't given. `others` is
-    what of the folder isn't theirs."""
-    number, first = _opened(folder, others, name, f"{name}.first")
+    what of the folder isn't theirs. One that isn't needed is none where no name is left for it."""
+    try:
+        number, first = _opened(folder, others, name, f"{name}.first")
+    except NoPlace:
+        if is_needed:
+            raise
+        yield
+        return
     try:
         try:
             if not _in_turn(number, first, seconds):

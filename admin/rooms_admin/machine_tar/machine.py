@@ -123,10 +123,18 @@ def _about(version: str) -> str:
     text = (f"rooms {version}\nhost {os.uname().nodename}\n"
             f"date {time.strftime('%FT%TZ', time.gmtime())}\n\n"
             "What follows is to look at: no restore brings it back.\n")
-    text += _packages() + _kept(["ip", "-brief", "address"])
+    text += _packages() + _kept(["ip", "-brief", "address"]) + _hosts()
     for line, runs in at_jobs.of_root():
         text += f"at {line}\n" + "\n".join(runs.splitlines()[-2:]) + "\n"
     return text + _of_cron()
+
+
+def _hosts() -> str:
+    """By which other machines with rooms are found: nginx doesn't start without."""
+    named = {settings.value(one, "ON") for one in glob.glob(f"{glob.escape(ROOT)}/etc/rooms/*.on")}
+    words = [word for one in sorted(named) if one for word in ("-e", one)]
+    return commands.bounded(["grep", "-HswF", *words, f"{ROOT}/etc/hosts"], _TABLE,
+                            commands.NOTHING, ())[1].decode(errors="replace") if words else ""
 
 
 def _of_cron() -> str:

@@ -1,9 +1,11 @@
 """machine.tar, whoever has written it: what may be in it, and what of that runs nothing as root.
 All of it is looked at before anything is written, and no program that it names is run."""
+import calendar
 import os
 import re
 import tarfile
 import tempfile
+import time
 from collections import Counter
 from dataclasses import dataclass, field
 
@@ -69,6 +71,13 @@ class Tar:
                           re.ASCII | re.MULTILINE)
         return found[1] if found else "another day"
 
+    def moment(self) -> int:
+        """The same, in seconds since 1970; 0 where it doesn't say."""
+        try:
+            return calendar.timegm(time.strptime(self.date(), "%Y-%m-%dT%H:%M:%SZ"))
+        except (ValueError, OverflowError):
+            return 0
+
 
 def _backups_of(conf: str) -> str:
     """A machine that is new may have no settings that can be read."""
@@ -83,17 +92,29 @@ def _backups_of(conf: str) -> str:
 
 def lacking(conf: str, tar: Tar) -> list[str]:
     """Rooms with backups here whose settings the tar of a night hasn't, a line each: one that was
-    made since has a tar of its own."""
+    made since has a tar of its own. An older one would bring back old passwords of all rooms."""
     if "machine/added" in tar.words:
         return []
-    folder, known = _backups_of(conf), {settings.name_of(one) for one in tar.rooms()}
+    known = {settings.name_of(one) for one in tar.rooms()}
+    rows = []
+    for name, some in _of_each(_backups_of(conf)).items():
+        if name in known:
+            continue
+        if (backups.made(some[-1]) or 0) > tar.moment():
+            rows.append(f"{name} has backups, and no settings in {tar.place}, as a room that was "
+                        f"made since: rooms-admin restore --machine {some[-1].place}")
+        else:
+            rows.append(f"{name} has backups, and was removed before {tar.place}: "
+                        "docs/machines.md, Taking a room away")
+    return rows
+
+
+def _of_each(folder: str) -> dict[str, list[backups.Backup]]:
+    """The backups with a tar of each room that has a folder below that of all."""
     there = waiting.answer(waiting.PATIENCE, lambda: sorted(os.listdir(folder)), folder)
     rows = {name: backups.with_file(f"{folder}/{name}", name, "machine.tar")
-            for name in (there if isinstance(there, list) else [])
-            if names.is_room(name) and name not in known}
-    return [f"{name} has backups, and no settings in {tar.place}, as a room that was made since or "
-            f"removed: rooms-admin restore --machine {some[-1].place}"
-            for name, some in rows.items() if some]
+            for name in (there if isinstance(there, list) else []) if names.is_room(name)}
+    return {name: some for name, some in rows.items() if some}
 
 
 def find(conf: str, backup: str) -> str:
@@ -101,6 +122,10 @@ def find(conf: str, backup: str) -> str:
     if backup == "latest":
         backups.need_disk(folder)
         found = backups.with_file(folder, settings.name_of(conf), "machine.tar")
+        if not found and settings.name_of(conf) == "office":
+            # A machine may have rooms for another one's front end alone.
+            found = sorted((some[-1] for some in _of_each(folder).values()),
+                           key=lambda one: one.name)
         if not found:
             raise Refused(f"no machine: no backup in {folder} has a machine.tar")
         backup = found[-1].place

@@ -13,10 +13,10 @@ from contextlib import ExitStack, contextmanager, suppress
 from ..host import commands, locks, safe, waiting
 from ..room import forms, program, server, settings
 from ..passwords import passwords
-from ..backup import restoring
+from ..backup import backups, restoring
 from ..people.coming_back import ComingBack
 from . import machine, machine_tar
-from ..cli.report import Refused, Stop, say
+from ..cli.report import Interrupted, Refused, Stop, say
 from ..host.root import ROOT
 from .machine_tar import File, Tar, setting_of
 
@@ -111,7 +111,7 @@ class Machine:
         for name in self.added:
             print(f"would: file /{name}")
         for name in self.changed:
-            print(f"would: new /{name}")
+            print(f"would: new file /{name}")
         for name in self.going:
             print(f"would: /{name} is removed")
 
@@ -155,7 +155,7 @@ class Machine:
                 raise Stop(f"/{name} can't be written: {safe.reason(fault)}; the same command goes "
                            f"on, and rooms-admin restore --machine {self.before} goes back"
                            ) from fault
-            print(f"file /{name}")
+            print(f"{'new ' if name in self.changed else ''}file /{name}")
         for name in self.going:
             with _above(name) as within:
                 os.unlink(os.path.basename(name), dir_fd=within)
@@ -185,32 +185,62 @@ class Machine:
                        lambda: shutil.rmtree(self.private, ignore_errors=True), self.backups)
 
 
+def _made(tar: Tar) -> list[str]:
+    """The settings of its rooms, but for the site's own where nobody made it: a machine may have
+    rooms for another one's front end alone."""
+    office = "etc/rooms/office.conf"
+    if office not in tar.files or "rooms@office.service" in tar.lines("machine/enabled"):
+        return tar.rooms()
+    kept, file = (setting_of(tar.files[office].data, name) for name in ("BACKUPS", "FILE"))
+    if backups.with_file(ROOT + kept, "office", os.path.basename(file)):
+        return tar.rooms()
+    return [one for one in tar.rooms() if one != office]
+
+
 def start_all(tar: Tar) -> int:
     """What is left on a new machine. What is done already is done again, or changes nothing."""
     failed = 0
     server.systemctl("daemon-reload")
-    for name in tar.rooms():
+    for name in _made(tar):
         conf = f"{ROOT}/{name}"
         try:
             room = settings.room(conf)
             if not os.path.lexists(room.file):
                 coming = ComingBack(room, False)
-                restoring.restore_room(conf, "latest", False, True, coming.look)
+                # One that was enabled before its room was here is started again and again.
+                is_up = server.state(room) not in ("inactive", "failed")
+                restoring.restore_room(conf, "latest", is_up, True, coming.look)
                 coming.tell()
+        except Interrupted:
+            raise
         except (Stop, OSError) as fault:
             say(str(fault))
             failed += 1
-    words = [["reload-or-restart", "nginx"]] if commands.shown(["nginx", "-t"]) else []
-    failed += not words
-    # (a door that runs has the settings of before)
-    words += [["try-restart", "rooms-door@*"]]
-    words += [["enable", "--now", one] for one in tar.lines("machine/enabled")]
+    words = _starting(tar)
+    if not commands.shown(["nginx", "-t"]):
+        failed += 1
+        words = words[1:]
     for one in words:
         print(shlex.join(["systemctl", *one]))
         if server.systemctl(*one)[0] != 0:
             say("failed: " + shlex.join(["systemctl", *one]))
             failed += 1
     return 1 if failed else 0
+
+
+def _starting(tar: Tar) -> list[list[str]]:
+    # (a door that runs has the settings of before)
+    return [["reload-or-restart", "nginx"], ["try-restart", "rooms-door@*"],
+            *(["enable", "--now", one] for one in tar.lines("machine/enabled"))]
+
+
+def would_start(tar: Tar) -> None:
+    for name in tar.rooms():
+        file = setting_of(tar.files[name].data, "FILE")
+        if not os.path.lexists(file):
+            print(f"would: restored {file} from latest")
+    for words in _starting(tar):
+        print(f"would: {shlex.join(['systemctl', *words])}")
 
 
 def tell_rest(task: Machine) -> None:
@@ -222,7 +252,7 @@ def tell_rest(task: Machine) -> None:
            for name in task.added + task.changed):
         print(f"Passwords are those of {tar.date()}: take away again what was taken away since")
     print("What is left, where this is a new machine (docs/backup.md), which --start does:")
-    for name in tar.rooms():
+    for name in _made(tar):
         print(f"  rooms-admin restore --room {shlex.quote('/' + name)} latest")
     print("  rooms-admin setup; systemctl daemon-reload; nginx -t && "
           "systemctl reload-or-restart nginx")

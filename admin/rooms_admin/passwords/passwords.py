@@ -291,8 +291,9 @@ def change(room: str, lines: dict[str, bytes | None], keeps: bool = False,
 
 
 def moving(room: str) -> AbstractContextManager[None]:
-    """One change of the files of a room at a time, and none while they are copied."""
-    return locks.lock(f"{room}.passwords", 10)
+    """One change of the files of a room at a time, and none while they are copied. (Where a service
+    has filled /run, somebody can be shut out all the same.)"""
+    return locks.lock(f"{room}.passwords", 10, is_needed=False)
 
 
 def carry(source: str, target: str, before: bytes) -> None:

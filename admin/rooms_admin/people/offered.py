@@ -78,7 +78,7 @@ def show_known(room: Room) -> None:
     try:
         with locks.lock(room.unit, 10):
             show(room, None, newest_one)
-    except locks.Busy as busy:
+    except (locks.Busy, locks.NoPlace) as busy:
         say(f"the names that the web interface offers are those of before: {busy}")
 
 

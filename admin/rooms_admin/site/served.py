@@ -84,6 +84,12 @@ def _is_for(file: str, host: str) -> bool:
                                     "-checkhost", host])
 
 
+def names_without(file: str, site: template.Site) -> list[str]:
+    """Those of the site and of its rooms that a certificate isn't for."""
+    wanted = [*site.front.hosts, *(one.host for one in site.rooms if one.host)]
+    return [one for one in wanted if not _is_for(file, one)]
+
+
 def see_names(file: str) -> str:
     """The name of a room that the certificate isn't for, as after a renewal for another one alone;
     or of the site, which may have names beside those that browsers get."""
@@ -91,7 +97,9 @@ def see_names(file: str) -> str:
         found = template.gather(root.ROOT)
     except Refused:
         return ""
-    lacks = [one.host for one in found.rooms if one.host and not _is_for(file, one.host)]
-    if not any(_is_for(file, one) for one in found.front.hosts):
-        lacks += found.front.hosts[:1]
+    lacks = names_without(file, found)
+    hosts = found.front.hosts
+    if any(one not in lacks for one in hosts):
+        lacks = [one for one in lacks if one not in hosts]
+    lacks = [one for one in lacks if one not in hosts[1:]]
     return f"no certificate: {file} isn't for {' and '.join(lacks)}" if lacks else ""

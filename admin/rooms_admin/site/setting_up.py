@@ -11,7 +11,7 @@ from ..host import changes, commands
 from ..room import forms, program as runs, settings
 from ..passwords import passwords
 from ..directory import directory, guests
-from . import apache, apply, certificates, password_files, template, values
+from . import apache, apply, certificates, password_files, served, template, values
 from ..cli.report import Refused, Stop, say
 from ..host.changes import Changes
 
@@ -49,6 +49,8 @@ def set_up(made: Changes, pair: tuple[str, str] | None, chosen: str,
         return _end(made, True)
     apply.disable_default(made, default_is_packaged(made.root))
     good = apply.show(made)
+    if pair and (lacks := served.names_without(pair[0], template.gather(made.root))):
+        say(f"no certificate: {pair[0]} isn't for {' and '.join(lacks)}, where browsers warn")
     if not made.root:
         _run_passwords(made, chosen)
     return _end(made, good)

@@ -4,13 +4,14 @@ those of all rooms, so nothing that a verb would refuse is written. Last it prin
 done so that they count."""
 import argparse
 import os
+import re
 
 from ..backup import copying
 from ..cli import alike, words
 from ..host import locks
 from ..host.changes import Changes, changes_asked_for
 from ..room import server, settings, there
-from . import apply, ports, template, values
+from . import apply, ports, setting_up, template, values
 from ..cli.report import Refused, say
 
 # Who reads what only when it starts.
@@ -38,6 +39,9 @@ def _wanted(given: list[str], path: str, known: dict[str, str]) -> dict[str, str
             raise Refused(f"no setting: {path} has no {name}{alike.meant(name, known)}")
         if name in found:
             raise Refused(f"bad arguments: {name} stands twice")
+        if name == "MAIL" and re.search(r"[^,\s]\s+[^,\s]", value):
+            raise Refused(f"bad settings: MAIL in {path} isn't addresses with commas between them: "
+                          f"'{value}'")
         found[name] = value
     return found
 
@@ -77,6 +81,14 @@ def _need_port(path: str, text: str, wanted: dict[str, str]) -> None:
         ports.need_free("", name, wanted["PORT"])
 
 
+def _need_pair(made: Changes, kind: type, text: str, wanted: dict[str, str]) -> None:
+    """As setup does, by which nginx would have them."""
+    rows = text.split("\n")
+    pair = [settings.last(rows, name) or "" for name in ("CERTIFICATE", "KEY")]
+    if kind is settings.Front and all(pair) and wanted.keys() & {"CERTIFICATE", "KEY"}:
+        setting_up.look_at_pair(made, pair[0], pair[1])
+
+
 def _refusal(root: str) -> str:
     """What setup says against the settings of all rooms."""
     try:
@@ -99,16 +111,20 @@ def _look_at_all(root: str, path: str, text: str) -> str:
     return then
 
 
-def _tell(path: str, changed: set[str], kind: type, refusal: str) -> None:
+def _tell(made: Changes, path: str, changed: dict[str, str], kind: type, refusal: str) -> None:
     """What has them count. Other settings are read by each run."""
     name = settings.name_of(path)
     site = {one.name for one in settings.of_kind(settings.Reached).values()} - {"EARLIER_FROM"}
     todo = []
-    if kind is not settings.Room or changed & site:
+    if kind is not settings.Room or changed.keys() & {*site, "SEARCH_SCANS"}:
         todo.append("rooms-admin setup")
     if kind is settings.Room:
         units = {unit: None for one, unit in _STARTED.items() if one in changed}
         todo += [f"systemctl restart {unit}@{name}" for unit in units]
+        timer = f"rooms-standby@{name}.timer"
+        if changed.get("HOURS", "0") not in ("", "0") and not os.path.lexists(
+                f"{made.root}/etc/systemd/system/timers.target.wants/{timer}"):
+            todo.append(f"systemctl enable --now {timer}")
     if "PEOPLE" in changed:
         # Until the night nginx shows what there was.
         of = "" if name == "office" else f" --room {name}"
@@ -134,25 +150,27 @@ def run(given: argparse.Namespace) -> int:
         if not made.root:
             _need_places(path, wanted)
             _need_port(path, then, wanted)
+            _need_pair(made, kind, then, wanted)
         refusal = _look_at_all(made.root, path, then)
-        changed = {name for name, value in wanted.items()
+        changed = {name: value for name, value in wanted.items()
                    if settings.value(made.root + path, name) != value}
         values.set_values(made, path, wanted)
     if not changed:
         print("nothing to change")
-    elif not made.dry:
-        _tell(path, changed, kind, refusal)
+    else:
+        _tell(made, path, changed, kind, refusal)
         if "BACKUPS" in changed and not made.root:
-            _see_backups(path)
+            _see_backups(path, then)
     if "FILE" in changed and not made.root and not os.path.exists(wanted["FILE"]):
         say(f"no file: {wanted['FILE']} isn't there, and without it the server doesn't start again")
     return 0
 
 
-def _see_backups(path: str) -> None:
+def _see_backups(path: str, text: str) -> None:
     """The next run would say it, at night."""
     try:
-        why = copying.hindered(settings.room(path))
+        with settings.supposed(path, text):
+            why = copying.hindered(settings.room(path))
     except Refused as stop:
         why = str(stop)
     if why:

@@ -9,6 +9,7 @@ import secrets
 import socket
 import threading
 import traceback
+from collections import Counter
 from collections.abc import Iterator
 from contextlib import contextmanager
 
@@ -20,15 +21,16 @@ from .. import listening, scgi
 from ..room.answers import Answer, Stop, told
 from ..room.paths import Names, chosen_in, names_in
 from ..room.room import Room
-from ..room.turns import Users
+from ..room.turns import RUNNING, WAITING, Users
 from . import gate
 from .judging import LISTED, Look
 from .whole import archive
 
 # Connections at once, and of them about one room: so a room that hangs keeps nobody waiting who
-# asks for another one. ZIPs at once, which may be taken slowly. Seconds until it ends if nobody
-# asks.
-MOST, OF_ONE, ZIPS, IDLE = 64, 24, 8, 600.0
+# asks for another one. So many of these are left by users of whom as many are under way as are
+# answered: so two who ask again and again keep nobody from a room's nights. ZIPs at once, which may
+# be taken slowly. Seconds until it ends if nobody asks.
+MOST, OF_ONE, LEFT, ZIPS, IDLE = 64, 24, 8, 8, 600.0
 # How long a copy may take for an answer. (A server reads nothing of the disk for one.)
 PATIENCE = float(os.environ.get("ROOMS_NIGHTS_PATIENCE", "20"))
 _TARGET = re.compile(r"/earlier/(?:(nights)|(\d{4}-\d\d-\d\d\.\d{6})/(?:(doc|folder|dacl)/([^?]*)|"
@@ -41,17 +43,30 @@ class Today:
     def __init__(self, name: str) -> None:
         self.room = Room(os.path.join(locks.RUN, "rooms", name, "socket"), most=LISTED)
         self.users = Users()
-        self.free = threading.BoundedSemaphore(OF_ONE)
+        self._lock = threading.Lock()
+        # Of whom how many are under way.
+        self._placed: Counter[str] = Counter()
+
+    def _place(self, user: str) -> None:
+        with self._lock:
+            own = self._placed[user]
+            if own >= RUNNING + WAITING:
+                raise Stop(429, "too-many-requests", fields={"Retry-After": "10"})
+            if self._placed.total() >= OF_ONE - (LEFT if own >= RUNNING else 0):
+                raise Stop(503, "busy", fields={"Retry-After": "10"})
+            self._placed[user] += 1
 
     @contextmanager
     def turn(self, user: str, word: str) -> Iterator[None]:
-        if not self.free.acquire(blocking=False):
-            raise Stop(503, "busy", fields={"Retry-After": "10"})
+        self._place(user)
         try:
             with self.users.turn(user, word if word in ("folder", "zip") else ""):
                 yield
         finally:
-            self.free.release()
+            with self._lock:
+                self._placed[user] -= 1
+                if not self._placed[user]:
+                    del self._placed[user]
 
 
 class Judge:

@@ -11,7 +11,7 @@ from ...room.room import Ask, Reply, Room, Talk, about, rows
 from ...room.space import Space
 from ...room.tags import names_tag
 from ..changes.keeper import Keeper
-from ..large.replacing import Upload
+from ..large.replacing import Upload, may_write
 from .conditions import Condition, Listed, read_if
 from .dates import Dates
 from .kept import Kept
@@ -258,6 +258,11 @@ class Drive:
                 if len(lock.names) == len(names) + 1:
                     found.setdefault(lock.names[-1], []).append(lock)
         return found
+
+    def to_write(self, call: Call, names: Names) -> tuple[Names, ...]:
+        """What is reserved of a document that is written piece by piece: nothing for who may not
+        write it, whom the room denies it then, so that they keep nobody from it meanwhile."""
+        return (names,) if may_write(call.ask, names).rulings().get("w") else ()
 
     @contextmanager
     def reserved(self, call: Call, *places: Names) -> Iterator[None]:

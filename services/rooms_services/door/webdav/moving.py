@@ -88,6 +88,9 @@ def move(drive: Drive, call: Call) -> Answer:
 
 def _move_in_place_of(drive: Drive, call: Call, to: Names, is_folder: bool) -> Answer:
     """What is there goes: a folder, or what a folder takes the place of."""
+    # (whoever may not remove it keeps nobody from it while they look through it)
+    if failures := trees.kept(call, [(to, is_folder)]):
+        return properties.failed(call.prefix, failures)
     with drive.reserved(call, to, call.names):
         if failures := trees.removable(call, to, is_folder).failures:
             return properties.failed(call.prefix, failures)
@@ -147,7 +150,7 @@ def manifest_in(there: There) -> Manifest | None:
 
 def _move_parts_over(drive: Drive, call: Call, to: Names, manifest: Manifest) -> Answer:
     """The same of one of more than 1 MiB."""
-    with drive.reserved(call, to, call.names):
+    with drive.reserved(call, *drive.to_write(call, to), call.names):
         _may_leave(call)
         _copy_parts(drive, call, to, manifest)
         with call.alone():
@@ -202,10 +205,13 @@ def copy(drive: Drive, call: Call) -> Answer:
             return well
         if not manifest:
             _refuse_parts(call, *[call.names] if isinstance(source, Document) else [], to)
-    with drive.reserved(call, to):
-        if manifest:
+    if manifest:
+        with drive.reserved(call, *drive.to_write(call, to)):
             _copy_parts(drive, call, to, manifest)
             return well
+    if target is not None and (failures := trees.kept(call, [(to, isinstance(target, Folder))])):
+        return properties.failed(call.prefix, failures)
+    with drive.reserved(call, to):
         return _answer(call, _copy_folder(drive, call, to, source, target, depth), well)
 
 

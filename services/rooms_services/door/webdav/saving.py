@@ -22,7 +22,7 @@ def put(drive: Drive, call: Call) -> Answer:
             seen = call.ask(about("GET", "doc", call.names)) \
                 if call.upload and _is_about_bytes(call) else None
         if call.upload:
-            with drive.reserved(call, call.names):
+            with drive.reserved(call, *drive.to_write(call, call.names)):
                 answer = replacing.write(call.room, call.user, call.names, call.upload, seen)
                 drive.came(call, call.names)
     except Stop:
