@@ -222,8 +222,9 @@ class Passwords(unittest.TestCase):
         self.addCleanup(root.stop)
         lock = locks.lock
 
-        def here(name: str, seconds: float) -> contextlib.AbstractContextManager[None]:
-            return lock(name, seconds, f"{held.name}/run")
+        def here(name: str, seconds: float, is_needed: bool = True
+                 ) -> contextlib.AbstractContextManager[None]:
+            return lock(name, seconds, f"{held.name}/run", is_needed=is_needed)
         locked = unittest.mock.patch.object(locks, "lock", here)
         locked.start()
         self.addCleanup(locked.stop)
