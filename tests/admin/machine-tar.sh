@@ -129,7 +129,12 @@ cp -Rp old odd
 { printf '\357\273\277'; block CERTIFICATE E | sed 's/^MAM/ MAM/'; block 'PUBLIC KEY' I; } \
   >odd/etc/ssl/rooms.pem
 sed -i 's#/etc/ssl/rooms#/etc//ssl/rooms#' odd/etc/rooms/site
+echo ON=b.example >odd/etc/rooms/wiki.on
+printf '%s\n' '127.0.0.1 localhost' '10.0.0.2 b.example b' >odd/etc/hosts
 saves odd odd.tar
+tar -xOf odd.tar machine/about | grep ^/etc/hosts: >got
+echo '/etc/hosts:10.0.0.2 b.example b' >wanted.odd
+same 'where another machine is found' got wanted.odd
 holds 'a certificate with a mark, a blank and a key' [ "$status" = 0 -a ! -s "$work/out" ]
 echo mine >'odd/etc/rooms/a\b'
 truncate -s 45M odd/etc/rooms/rooms.deb

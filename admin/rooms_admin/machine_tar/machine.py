@@ -126,7 +126,19 @@ def _about(version: str) -> str:
     text += _packages() + _kept(["ip", "-brief", "address"])
     for line, runs in at_jobs.of_root():
         text += f"at {line}\n" + "\n".join(runs.splitlines()[-2:]) + "\n"
-    return text + _of_cron()
+    return text + _of_hosts() + _of_cron()
+
+
+def _of_hosts() -> str:
+    """By which nginx finds the machines of rooms elsewhere: without them it doesn't start."""
+    machines = {settings.value(file, "ON")
+                for file in glob.glob(f"{glob.escape(ROOT)}/etc/rooms/*.on")}
+    try:
+        with open(f"{ROOT}/etc/hosts", encoding="utf-8", errors="replace") as source:
+            rows = source.read(_TABLE).splitlines()
+    except OSError:
+        return ""
+    return "".join(f"/etc/hosts:{row}\n" for row in rows if machines & set(row.split()[1:]))
 
 
 def _of_cron() -> str:
