@@ -157,6 +157,12 @@ done
 rm -rf new/var/backups/rooms/2026*
 brings new latest
 says 'no backup at all' 2 'no machine'
+mkdir -p new/var/backups/rooms/wiki/2026-11-21.030000
+cp machine.tar new/var/backups/rooms/wiki/2026-11-21.030000/
+brings new latest
+says 'a machine without the room office' 2 \
+  'has a machine.tar; of wiki: rooms-admin restore --room wiki --machine --start latest'
+rm -r new/var/backups/rooms/wiki
 
 # No program that a tar names is run, and what of it may run as root is told.
 rm -rf tree

@@ -7,12 +7,14 @@ import tarfile
 import tempfile
 import time
 from collections import Counter
+from collections.abc import Iterator
 from dataclasses import dataclass, field
 
 from ..host import locks, pem, safe, waiting
 from ..room import environment, forms, names, settings
 from ..passwords import passwords
 from ..backup import backups
+from ..backup.backups import Backup
 from ..site import template
 from . import machine
 from ..cli.report import Refused, Stop
@@ -90,22 +92,28 @@ def _backups_of(conf: str) -> str:
     return ROOT + folder
 
 
+def _with_tar(folder: str) -> Iterator[tuple[str, Backup]]:
+    """Rooms that have backups there with one, and the newest of each."""
+    there = waiting.answer(waiting.PATIENCE, lambda: sorted(os.listdir(folder)), folder)
+    for name in filter(names.is_room, there if isinstance(there, list) else []):
+        if some := backups.with_file(f"{folder}/{name}", name, "machine.tar"):
+            yield name, some[-1]
+
+
 def lacking(conf: str, tar: Tar) -> list[str]:
     """Rooms with backups here whose settings the tar of a night hasn't, a line each: one that was
     made since has a tar of its own. An older one would bring back old passwords of all rooms."""
     if "machine/added" in tar.words:
         return []
     folder, known = _backups_of(conf), {settings.name_of(one) for one in tar.rooms()}
-    there = waiting.answer(waiting.PATIENCE, lambda: sorted(os.listdir(folder)), folder)
     rows = []
-    for name in there if isinstance(there, list) else []:
-        if not names.is_room(name) or name in known:
+    for name, last in _with_tar(folder):
+        if name in known:
             continue
-        some = backups.with_file(f"{folder}/{name}", name, "machine.tar")
-        if some and (backups.made(some[-1]) or 0) > tar.moment():
+        if (backups.made(last) or 0) > tar.moment():
             rows.append(f"{name} has backups, and no settings in {tar.place}, as a room that was "
-                        f"made since: rooms-admin restore --machine {some[-1].place}")
-        elif some:
+                        f"made since: rooms-admin restore --machine {last.place}")
+        else:
             rows.append(f"{name} has backups, and was removed before {tar.place}: "
                         "docs/machines.md, Taking a room away")
     return rows
@@ -117,7 +125,10 @@ def find(conf: str, backup: str) -> str:
         backups.need_disk(folder)
         found = backups.with_file(folder, settings.name_of(conf), "machine.tar")
         if not found:
-            raise Refused(f"no machine: no backup in {folder} has a machine.tar")
+            other = next((f"; of {name}: rooms-admin restore --room {name} --machine --start latest"
+                          for name, _ in _with_tar(folder)), "")
+            raise Refused(f"no machine: no backup of {settings.name_of(conf)} in {folder} has a "
+                          f"machine.tar{other}")
         backup = found[-1].place
     for above in (backups.below(folder, settings.name_of(conf)), folder):
         if "/" not in backup and os.path.isdir(os.path.join(above, backup)):
