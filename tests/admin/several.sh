@@ -32,6 +32,8 @@ installs
 says 'an install' 0 'file /var/lib/rooms-front/start.html'
 holds 'office has settings' [ "$(value office UNIT) $(value office PORT)" = 'rooms@office ' ]
 refuses 'nothing' 'bad arguments'
+refuses 'an address, which no certificate is for' "'10.0.0.2' isn't the name of a machine" \
+  --on 10.0.0.2 bills
 refuses 'an unknown option' 'bad arguments: no such option: --other' --other invoices
 refuses 'no value' 'bad arguments' --port
 refuses 'an owner without a group' 'bad arguments' invoices carol

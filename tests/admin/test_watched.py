@@ -21,7 +21,7 @@ from rooms_admin.cli.report import Refused  # noqa: E402
 from rooms_admin.host import changes, locks, mail, root  # noqa: E402
 from rooms_admin.room import health, server, settings  # noqa: E402
 from rooms_admin.check import finding, front, verb_tell, watched  # noqa: E402
-from rooms_admin.site import certificates, served, setting_up, verb_set  # noqa: E402
+from rooms_admin.site import apply, certificates, served, setting_up, verb_set  # noqa: E402
 
 
 class Answers(socketserver.StreamRequestHandler):
@@ -73,6 +73,16 @@ class Watched(unittest.TestCase):
         def fails() -> list[finding.Finding]:
             raise OSError("no")
         self.assertEqual(watched.within(60, fails, "/mnt"), [(2, "/mnt can't be looked at")])
+
+    def test_the_address_beside_other_sites(self) -> None:
+        with tempfile.TemporaryDirectory() as home:
+            os.makedirs(f"{home}/etc/nginx/sites-enabled")
+            os.makedirs(f"{home}/etc/rooms")
+            for name in ("nginx/sites-enabled/rooms", "rooms/site"):
+                open(f"{home}/etc/{name}", "w", encoding="ascii").close()
+            self.assertNotEqual(apply.address(home), "http://rooms.example/")
+            open(f"{home}/etc/nginx/sites-enabled/intranet", "w", encoding="ascii").close()
+            self.assertEqual(apply.address(home), "http://rooms.example/")
 
     def test_a_certificate_of_a_clock_that_was_ahead(self) -> None:
         with tempfile.TemporaryDirectory() as home, \

@@ -232,8 +232,8 @@ def _ports(root: str) -> dict[str, str]:
 def elsewhere(made: Changes, name: str, on: str, port: str, title: str) -> int:
     """A room on another machine: its place, its passwords, and a line for the start page."""
     _look_at_name_here(made, name)
-    if not names.is_host(on):
-        raise Refused(f"bad host: '{on}'")
+    if not names.is_host(on) or on.replace(".", "").isdigit():
+        raise Refused(f"bad host: '{on}' isn't the name of a machine in a network")
     if not forms.is_port(port):
         raise Refused(f"bad port: '{port}'")
     for one in ("front.pem", "front.key", "authority.pem"):

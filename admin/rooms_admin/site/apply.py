@@ -213,6 +213,14 @@ def disable_default(made: Changes, packaged: bool) -> None:
               "room doesn't")
 
 
+def _has_others(root: str) -> bool:
+    """Sites beside ours: one of them answers for each name that none has, such as an address."""
+    try:
+        return bool(set(os.listdir(root + os.path.dirname(_LINK))) - {os.path.basename(_LINK)})
+    except FileNotFoundError:
+        return False
+
+
 def address(root: str) -> str:
     """Where users find office."""
     front = settings.front(root + template.SETTINGS)
@@ -224,7 +232,7 @@ def address(root: str) -> str:
             if kind in ("DNS", "Address") and name:
                 return f"https://{name}/"
         return f"https://{front.hosts[0]}/"
-    if os.path.lexists(root + _DEFAULT) or front.hosts[0] != settings.Front().hosts[0]:
+    if _has_others(root) or front.hosts[0] != settings.Front().hosts[0]:
         return f"http://{front.hosts[0]}/"
     _, said = changes.run("hostname", "-I", check=False)
     first = (said.split() or ["localhost"])[0]
@@ -237,6 +245,9 @@ def tell(made: Changes) -> None:
         return
     where = address("")
     print(f"Users then open {where}")
+    if where == f"http://{settings.Front().hosts[0]}/" and _has_others(made.root):
+        print("nginx serves other sites too, so that has to be a name of this machine's: rooms-admin "
+              "set --site HOSTS=NAME && rooms-admin setup")
     if where.startswith("http:"):
         print("Passwords and documents travel unencrypted until: rooms-admin setup --tls "
               "CERTIFICATE KEY")
