@@ -19,7 +19,7 @@ from rooms_admin.cli.report import Interrupted, Refused, Stop  # noqa: E402
 from rooms_admin.directory import groups  # noqa: E402
 from rooms_admin.host import safe  # noqa: E402
 from rooms_admin.machine_tar import restore_machine  # noqa: E402
-from rooms_admin.people import known, offered  # noqa: E402
+from rooms_admin.people import ended, known, offered  # noqa: E402
 from rooms_admin.room import forms, published  # noqa: E402
 from rooms_admin.room.keep import Keep  # noqa: E402
 
@@ -216,6 +216,17 @@ class Whole(Folder):
         with safe.opened(safe.folder(empty)) as within:
             backups.give_number(within, 9, "other.rooms")
         self.assertEqual(len(backups.look(self.room).wrong), 1)
+
+
+class LastDay(Folder):
+    def test_which_day_the_last_backup_is_of(self) -> None:
+        """By the number that each run gave, whatever the clock said."""
+        self.assertIsNone(ended.last_day(self.room))
+        for number, name in ((1, "2036-01-01.040000"), (2, "2026-11-28.040000"),
+                             (3, "2026-11-29.040000")):
+            place = self.backup(name, number)
+        self.assertEqual(str(ended.last_day(self.room)), "2026-11-29")
+        self.assertEqual(str(ended.last_day(self.room, place)), "2026-11-28")
 
 
 if __name__ == "__main__":

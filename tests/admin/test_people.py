@@ -229,21 +229,6 @@ class Runs(unittest.TestCase):
             self.assertEqual(self.told(night, last=datetime.date(2035, 12, 31)), [])
         self.assertEqual([path for path, _ in self.sent[1:]], [b"/x", b"/y", b"/z"])
 
-    def test_which_day_the_last_backup_is_of(self) -> None:
-        with tempfile.TemporaryDirectory() as place:
-            room = dataclasses.replace(ROOM, backups=place, file="/f/F")
-            self.assertIsNone(ended.last_day(room))
-            # By the number that each run gave, whatever the clock said.
-            for number, name in ((1, "2036-01-01.040000"), (2, "2026-11-28.040000"),
-                                 (3, "2026-11-29.040000")):
-                os.makedirs(f"{place}/office/{name}")
-                pathlib.Path(f"{place}/office/{name}/F").touch()
-                pathlib.Path(f"{place}/office/{name}/run").write_text(f"number {number}\n",
-                                                                      encoding="ascii")
-            self.assertEqual(str(ended.last_day(room)), "2026-11-29")
-            tonight = f"{place}/office/2026-11-29.040000"
-            self.assertEqual(str(ended.last_day(room, tonight)), "2026-11-28")
-
     def test_nothing_stops_for_nothing(self) -> None:
         for night in (dumped(x=[READ]), dumped(x=[READ, marked(day="2999-01-01")]),
                       dumped(x=[OVER.replace("until", "ended")]),
