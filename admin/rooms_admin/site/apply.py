@@ -246,8 +246,8 @@ def tell(made: Changes) -> None:
     where = address("")
     print(f"Users then open {where}")
     if where == f"http://{settings.Front().hosts[0]}/" and _has_others(made.root):
-        print("nginx serves other sites too, so that has to be a name of this machine's: rooms-admin "
-              "set --site HOSTS=NAME && rooms-admin setup")
+        print("nginx serves other sites too, so that has to be a name of this machine's: "
+              "rooms-admin set --site HOSTS=NAME && rooms-admin setup")
     if where.startswith("http:"):
         print("Passwords and documents travel unencrypted until: rooms-admin setup --tls "
               "CERTIFICATE KEY")

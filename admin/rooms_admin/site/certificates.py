@@ -66,8 +66,9 @@ def _above_ends(file: str, seconds: int) -> str:
                                  str(seconds)], one)
         except (OSError, Stop):
             continue
-        if done.status and done.out.startswith("notAfter="):
-            return done.out.partition("\n")[0].partition("=")[2]
+        word, _, ends = done.out.partition("\n")[0].partition("=")
+        if done.status and word == "notAfter":
+            return ends
     return ""
 
 
