@@ -85,7 +85,8 @@ if [ "$(id -u)" = 0 ]; then
   checks 'files that nginx refuses' 2 "nginx refuses its files, and can't start again: \
 unknown directive \"lissten\" in mine.conf:3: mend that line"
   echo '[emerg] 28#28: host not found in upstream "b.example:8443" in rooms:33' >refused
-  checks 'a machine that is not found' 2 'b.example:8443" in rooms:33: give the name a line in /etc/h'
+  checks 'a machine that is not found' 2 \
+    'b.example:8443" in rooms:33: give the name a line in /etc/hosts'
   : >refused
 else
   skip 'files that nginx refuses' 'this user is not root'

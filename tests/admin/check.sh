@@ -218,7 +218,7 @@ echo HOURS=1 >>root/etc/rooms/bills.on
 checks 'one with settings that it has not' 2 'bills: bad settings: '
 rm -r root/etc/rooms/{bills.on,machines}
 
-# A machine with rooms for another one's front end alone, or none yet never made the site's own.
+# A machine with rooms for another one's front end alone, or none yet.
 echo HOSTS=rooms.example >root/etc/rooms/site
 settings "FILE=$PWD/office/none" "BACKUPS=$PWD/none"
 checks 'a room that nobody has made' 0 'rooms OK - office: nobody has made it yet'

@@ -34,6 +34,7 @@ dpkg-deb -x "$package" files
 dpkg-deb -e "$package" control
 units=usr/lib/systemd/system
 docs=usr/share/doc/rooms
+same 'pages are those of the repository' "files/$docs/docs/backup.md" "$repo/docs/backup.md"
 for file in usr/bin/rooms usr/bin/rooms-import usr/bin/rooms-export usr/sbin/rooms-nightly \
   usr/sbin/rooms-restore usr/sbin/rooms-get \
   usr/sbin/rooms-add usr/sbin/rooms-setup usr/sbin/rooms-admin usr/sbin/rooms-doctor \
@@ -70,7 +71,7 @@ dpkg-deb -f "$package" Recommends >found
 holds 'a mail program is recommended, without which nobody is told of a failure' \
   grep -q 'mailx.*mail-transport-agent' found
 holds "what has nginx's log go after two weeks is recommended" grep -q logrotate found
-grep -rlE '/usr/local/(s?bin|lib|share)/rooms' files >found
+grep -rlE --exclude-dir=docs '/usr/local/(s?bin|lib|share)/rooms' files >found
 : >nothing
 same 'no file looks below /usr/local' found nothing
 holds 'nothing is in a room' is_missing files/var

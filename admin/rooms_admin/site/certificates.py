@@ -66,9 +66,9 @@ def _above_ends(file: str, seconds: int) -> str:
                                  str(seconds)], one)
         except (OSError, Stop):
             continue
-        what, _, when = done.out.partition("\n")[0].partition("=")
-        if done.status and what == "notAfter":
-            return when
+        word, _, ends = done.out.partition("\n")[0].partition("=")
+        if done.status and word == "notAfter":
+            return ends
     return ""
 
 
