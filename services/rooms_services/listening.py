@@ -17,10 +17,19 @@ STACK = 4 << 20
 
 def handed() -> socket.socket:
     """The socket of this service's unit."""
-    if os.environ.get("LISTEN_FDS") != "1":
+    return handed_by_kind()[0]
+
+
+def handed_by_kind(kinds: tuple[int, ...] = ()) -> list[socket.socket]:
+    """All of them; of several kinds those of the kind named first come first."""
+    count = os.environ.get("LISTEN_FDS", "")
+    if not count.isdigit() or not 1 <= int(count) <= max(1, len(kinds)):
         raise SystemExit("no socket of systemd's: its unit starts this")
-    os.set_inheritable(_FIRST, False)
-    return socket.socket(fileno=_FIRST)
+    found = []
+    for number in range(_FIRST, _FIRST + int(count)):
+        os.set_inheritable(number, False)
+        found.append(socket.socket(fileno=number))
+    return sorted(found, key=lambda one: kinds.index(one.family)) if kinds else found
 
 
 def serve(listener: socket.socket, most: int, idle: float,

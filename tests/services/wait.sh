@@ -1,5 +1,6 @@
 # Who waits while a room's server is started anew: types and style, its parts, and the program,
 # which is started anew while twenty users ask it. (Under systemd, behind nginx: machine/restarts.)
+# And who asks at a room's port (machine/systemd).
 
 if ! has python3; then
   skip 'who waits for a server' 'python3 is missing'
@@ -9,7 +10,7 @@ services=$repo/services
 printf '%s\n' '[mypy]' 'strict = True' "cache_dir = $PWD/mypy" >mypy.ini
 if has mypy; then
   MYPYPATH=$services:$repo/admin mypy --config-file mypy.ini "$services/rooms_services/wait.py" \
-    "$here/services/test_wait.py" "$here"/lib/{restarted,cut_room}.py >"$work/out" 2>&1
+    "$here"/services/test_{wait,port}.py "$here"/lib/{restarted,cut_room}.py >"$work/out" 2>&1
   status=$?
   holds "mypy --strict: $(tail -n 5 "$work/out")" [ "$status" = 0 ]
 else
@@ -17,14 +18,14 @@ else
 fi
 if has flake8; then
   flake8 --isolated --max-line-length 100 "$services/rooms_services/wait.py" \
-    "$here"/lib/{restarted,cut_room}.py "$here/services/test_wait.py" >"$work/out" 2>&1
+    "$here"/lib/{restarted,cut_room}.py "$here"/services/test_{wait,port}.py >"$work/out" 2>&1
   status=$?
   holds "flake8: $(head -n 5 "$work/out")" [ "$status" = 0 ]
 else
   skip 'style of who waits' 'flake8 is missing'
 fi
 (cd "$here/services" &&
-  PYTHONPATH=$services:$repo/admin python3 -B -m unittest test_wait) >"$work/out" 2>&1
+  PYTHONPATH=$services:$repo/admin python3 -B -m unittest test_wait test_port) >"$work/out" 2>&1
 status=$?
 holds "its parts: $(tail -n 20 "$work/out")" [ "$status" = 0 ]
 

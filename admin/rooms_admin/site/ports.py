@@ -41,7 +41,9 @@ def need_free(root: str, name: str, port: str) -> None:
 
 
 def _text(port: str) -> str:
-    return f"[Socket]\nListenStream=\nListenStream=127.0.0.1:{port}\n"
+    """The second one is the kernel's, which says in this machine's network who connects."""
+    return (f"[Socket]\nListenStream=\nListenStream=127.0.0.1:{port}\n"
+            "ListenNetlink=inet-diag 0\n")
 
 
 def _there(root: str) -> set[str]:
