@@ -158,17 +158,9 @@ gets_to_port() { # NAME
   same "$1: root and nginx" "$work/out" wanted
 }
 gets_to_port 'who gets to the port'
-# Who asks is looked for by the kernel, and not in a list that any account makes long.
-does 'the list is read by nobody' 'process=$(systemctl show rooms-port@office -p MainPID --value)
-  grep -z "^LISTEN_FDS=" /proc/$process/environ | tr "\0" "\n"
-  mkdir -p /etc/systemd/system/rooms-port@.service.d
-  printf "%s\n" "[Service]" "Environment=ROOMS_CONNECTIONS=/none" \
-    >/etc/systemd/system/rooms-port@.service.d/none.conf
-  systemctl daemon-reload; systemctl stop rooms-port@office.service'
-prints 'whom the kernel answers' LISTEN_FDS=2
-gets_to_port 'who gets there without it'
-does 'as before' 'rm -r /etc/systemd/system/rooms-port@.service.d; systemctl daemon-reload
-  systemctl stop rooms-port@office.service'
+# By the kernel, and not by a list that any account makes long (services/wait).
+does 'which is asked' 'process=$(systemctl show rooms-port@office -p MainPID --value)
+  grep -qz "^LISTEN_FDS=2$" /proc/$process/environ'
 stop_machine
 holds 'the machine starts again' boot
 does 'and the table is there before the port' 'entered() { systemctl show "$1" -p "$2" --value; }
