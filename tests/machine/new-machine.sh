@@ -79,7 +79,7 @@ does 'neither is there' 'rm /usr/local/sbin/rooms-offsite
 if [ -n "$restic" ]; then
   does 'a repository' "$(block docs/backup.md '/mnt/offsite --password-file')"
   password=$(tail -n 1 "$work/out")
-  tells 'no backup yet' 'no backup of last night: /etc/rooms/invoices.conf'
+  tells 'no backup yet' 'no backup of last night in /var/backups/rooms: /etc/rooms/invoices.conf'
 fi
 does 'a night' 'systemctl start rooms-nightly@office && systemctl start rooms-nightly@invoices'
 does 'copies that are no backup' \
@@ -112,7 +112,7 @@ if [ -n "$rsync" ]; then
   same 'and all of it' found wanted
   # A folder that is empty, as that of a disk which isn't mounted, or of a new machine.
   does 'an empty folder' 'mv /var/backups/rooms /root/kept && mkdir /var/backups/rooms'
-  tells 'it' 'no backup of last night: /etc/rooms/office.conf'
+  tells 'it' 'no backup of last night in /var/backups/rooms: /etc/rooms/office.conf'
   (cd "$machine/mnt/rooms" && find . -type f -exec cksum {} + | sort) >found
   same 'the copies stay' found wanted
   does 'it is back' \
@@ -151,7 +151,8 @@ if [ -n "$rsync" ]; then
     rm -r /mnt/rooms && mkdir /mnt/rooms && systemctl start rooms-nightly@office &&
     /etc/cron.daily/rooms-offsite
     cd /mnt/rooms && ls -d office/*/machine.tar | wc -l'
-  prints 'are copied as before' 1
+  prints 'are copied as before, and those of a room that has others are told' \
+    'no backup of last night in /backup/rooms: /etc/rooms/invoices.conf' 1
 fi
 
 # It is dead, and another one is there. Its own disk at /mnt has the copies.
