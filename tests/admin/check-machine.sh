@@ -175,8 +175,8 @@ if [ "$(id -u)" = 0 ] && mkdir small &&
   checks 'a full disk of backups' 2 'the disk of backups is full: '
   umount small
   settings
-  mount -t tmpfs -o nr_inodes=2,mode=755 rooms-small small
-  ln -s "$PWD/run/rooms" small/rooms
+  mount -t tmpfs -o nr_inodes=3,mode=755 rooms-small small
+  ln -s "$PWD"/run/rooms{,-door} small/
   ROOMS_RUN=$PWD/small checks 'no name is left in /run' 2 "rooms CRITICAL - $PWD/small is full: "
   umount small
 else
