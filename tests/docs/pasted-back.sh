@@ -187,7 +187,7 @@ esac
 exec "$rooms" "\$@"
 END
 sed -i "s#^PROGRAM=.*#PROGRAM=$PWD/bin/rooms#" root/etc/rooms/office.conf
-for one in 'user add dana;groups-out' 'user remove bob;dump'; do
+for one in 'user add dana;groups-out' 'user remove bob;groups-out'; do
   text=${one%;*}
   bin/systemctl start rooms
   paste_in "$(blocks people.md "$text" | head -n 1)"
