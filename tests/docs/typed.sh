@@ -132,7 +132,8 @@ statuses='[12]'
 types 'somebody is told' docs/operating 'install -y bsd-mailx' \
   docs/operating 'systemctl start rooms-nightly@office'
 holds 'by a mail' grep -qx 'Can you read this?' "$machine/srv/mails"
-shows 'and all is looked at' 'rooms WARNING - passwords and documents travel unencrypted'
+# (No door runs here, which it says before.)
+shows 'and all is looked at' 'passwords and documents travel unencrypted'
 rm "$machine/usr/local/bin/mail" "$machine/etc/aliases" "$machine/srv/mails"
 types 'a port' docs/operating 'set PORT=8780'
 does 'the room is there' \
@@ -329,7 +330,7 @@ does 'what was enabled' 'systemctl enable --now rooms@office rooms-nightly@offic
 # What is watched, and what is done when something is wrong.
 statuses='[12]'
 types 'what to watch' docs/capacity '=rooms-admin check'
-shows 'it says what there is' 'rooms WARNING - ' 'office: '
+shows 'it says what there is' 'rooms CRITICAL - office: its door ' 'office: '
 types 'how much memory it has' docs/capacity MemoryCurrent
 statuses=1
 types 'how full it is' docs/capacity 'restart rooms-full@office'
@@ -369,7 +370,7 @@ types 'a newer version' docs/upgrading \
   '=apt-get install -y ./rooms_VERSION_amd64.deb -o Dpkg::Options::=--force-confold </dev/null' \
   docs/upgrading 'rooms-admin check' docs/upgrading '=rooms-admin setup
 rooms-admin check'
-shows 'serves' 'rooms WARNING - '
+shows 'serves' 'rooms CRITICAL - office: its door '
 types 'an older one' docs/upgrading allow-downgrades docs/upgrading "=systemctl restart 'rooms@*'"
 edit=s/2026-11-20.040000/$backup/
 types 'with its file' docs/upgrading 'rooms-restore 2026'
