@@ -231,12 +231,12 @@ ln -s "$PWD/kept" "$later/lists.txt"
 room_verb lists /
 says 'a link' 1 'a link, which is not followed'
 rm "$later/lists.txt"
-mv "$later/F" F.kept
+mkdir whole
+mv "$later"/F* whole/
 head -c 20000 /dev/zero >"$later/F"
-rm -f "$later/F-wal"
 room_verb lists /
 says 'a damaged file without texts' 1 'dump of the copy failed, status '
-mv F.kept "$later/F"
+mv whole/* "$later/"
 if [ "$(id -u)" = 0 ]; then
   cp kept "$later/lists.txt"
   chown 65534 "$later/lists.txt"
