@@ -37,7 +37,7 @@ holds 'the room is still its users' [ -z "$(find office -not -user "$STAND_USER"
 owes_nothing 'a good night'
 holds 'nothing else is left' \
   [ "$(cd "backups/conf/$good" && echo *)" \
-    = "F F-wal files lists.txt ${tar}records.csv review.csv run" ]
+    = "F F-wal files-of-run lists.txt ${tar}records.csv review.csv run" ]
 if [ -n "$tar" ]; then
   tar -xOf "backups/conf/$good/machine.tar" etc/rooms/office.conf >got
   same 'what the machine has beside its rooms is there' got root/etc/rooms/office.conf
@@ -300,7 +300,7 @@ for word in audit dump review; do
   holds "its $word fails: the older one goes, and tonight's stays" \
     grep -qxE '20[2-9][0-9]-[0-9]{2}-[0-9]{2}\.[0-9]{6}' <<<"$kept"
   gives "its $word fails: the copy is sound" 0 'sound\n' '' verify "backups/conf/$kept/F"
-  wanted=" F F-wal files lists.txt ${tar}records.csv review.csv run "
+  wanted=" F F-wal files-of-run lists.txt ${tar}records.csv review.csv run "
   same_words "its $word fails: the others are there" " $(cd "backups/conf/$kept" && echo *) " \
     "${wanted/ ${beside[$word]} / }"
   rm -rf backups/conf/*
@@ -316,7 +316,7 @@ if [ -n "$tar" ]; then
   unit_runs 'no machine.tar: the server runs'
   holds 'no machine.tar: the rest is there' \
     [ "$(cd "backups/conf/$(backups | tail -n 1)" && echo *)" \
-      = 'F F-wal files lists.txt records.csv review.csv run' ]
+      = 'F F-wal files-of-run lists.txt records.csv review.csv run' ]
   ln -s /nowhere/at/all root/etc/rooms/lost
   sleep 1
   night
