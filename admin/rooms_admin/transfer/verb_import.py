@@ -14,8 +14,8 @@ from ..room import names, settings
 from ..backup import dates
 from . import importing
 from ..cli.report import Refused, say
-from ..room.http_client import (argument, caller_arguments, caller_of, client, is_here, most_of,
-                                raise_limits)
+from ..room.http_client import (Client, argument, caller_arguments, caller_of, client, is_here,
+                                most_of, raise_limits)
 
 
 def arguments(parser: words.Parser) -> None:
@@ -49,9 +49,13 @@ def run(given: argparse.Namespace) -> int:
     say(tally.text())
     if asked is None:
         return 1 if tally.out else 0
+    return _send(given, asked, at, to, tally.total)
+
+
+def _send(given: argparse.Namespace, asked: Client, at: int, to: bytes, total: int) -> int:
     space = None if given.force or not is_here(given.room) else importing.Space(given.room)
     task = importing.Import(asked, given.replace, space)
-    task.total = tally.total
+    task.total = total
     if space:
         space.need(0)
     ended = False
@@ -59,7 +63,7 @@ def run(given: argparse.Namespace) -> int:
         if to == b"/" or task.make_way(to):
             task.folder(at, to, b"")
         else:
-            say(f"nothing of {source} was sent: there is no folder {names.shown(to)}")
+            say(f"nothing of {given.source} was sent: there is no folder {names.shown(to)}")
     except importing.Full as full:
         ended = True
         say(str(full))
