@@ -54,7 +54,7 @@ for file in usr/bin/rooms usr/bin/rooms-import usr/bin/rooms-export usr/sbin/roo
   usr/share/bash-completion/completions/rooms-nightly $docs/docs/operating.md $docs/CHANGELOG.md \
   $docs/copyright $units/rooms-door@.service usr/share/rooms/rooms_services/door/__main__.py \
   usr/share/rooms/door.conf.in usr/share/rooms/proxy.conf.in usr/share/rooms/earlier.conf.in \
-  usr/share/rooms/proxied.conf.in usr/share/rooms/scgi.conf.in \
+  usr/share/rooms/proxied.conf.in usr/share/rooms/scgi.conf.in usr/share/rooms/page.conf.in \
   $units/rooms-door@.socket $units/rooms-wait@.service $units/rooms-wait@.socket \
   usr/share/rooms/rooms_services/wait.py \
   $units/rooms-would@.service $units/rooms-would.socket \
