@@ -115,6 +115,24 @@ def listed(path, data):
     return out
 
 
+def of_open(call, path, data):
+    """What is asked of a file or a folder that is open."""
+    number = struct.unpack_from("<Q", data)[0]
+    if call == "READ":
+        _, offset, size = struct.unpack_from("<2QI", data)
+        if is_short(path):
+            size = max(0, min(size, os.fstat(number).st_size // 2 - offset))
+        return os.pread(number, size, offset)
+    if call == "WRITE":
+        _, offset, size = struct.unpack_from("<2QI", data)
+        return struct.pack("<2I", os.pwrite(number, data[40:40 + size], offset), 0)
+    if call in ("RELEASE", "RELEASEDIR"):
+        os.close(number)
+    elif call in ("FSYNC", "FSYNCDIR"):
+        os.fsync(number)
+    return b""
+
+
 def answer(call, path, data):
     name = os.path.join(path, os.fsdecode(data.split(b"\0")[0])) if path else ""
     if call == "INIT":
@@ -150,20 +168,7 @@ def answer(call, path, data):
         seen = os.statvfs(path)
         return struct.pack("<5Q10I", seen.f_blocks, seen.f_bfree, seen.f_bavail, seen.f_files,
                            seen.f_ffree, seen.f_bsize, 255, seen.f_frsize, *[0] * 7)
-    number = struct.unpack_from("<Q", data)[0]
-    if call == "READ":
-        _, offset, size = struct.unpack_from("<2QI", data)
-        if is_short(path):
-            size = max(0, min(size, os.fstat(number).st_size // 2 - offset))
-        return os.pread(number, size, offset)
-    if call == "WRITE":
-        _, offset, size = struct.unpack_from("<2QI", data)
-        return struct.pack("<2I", os.pwrite(number, data[40:40 + size], offset), 0)
-    if call in ("RELEASE", "RELEASEDIR"):
-        os.close(number)
-    elif call in ("FSYNC", "FSYNCDIR"):
-        os.fsync(number)
-    return b""
+    return of_open(call, path, data)
 
 
 def serve(link, asked):

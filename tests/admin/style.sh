@@ -45,9 +45,6 @@ for tested in test_pure test_backups test_told test_attacks test_texts test_limi
   status=$?
   holds "the pure parts, $tested: $(tail -n 20 "$work/out")" [ "$status" = 0 ]
 done
-wc -l "$repo"/{admin/rooms_admin,services/rooms_services}/{,*/}*.py "$repo/deploy/install" |
-  awk '$2 != "total" && $1 >= 500 { print $2 }' >found
-same 'no file has 500 lines' found /dev/null
 
 # Each line that it says when something isn't as it should be stands on the page of messages.
 for one in admin/rooms_admin services/rooms_services; do

@@ -1,8 +1,7 @@
-"""Which backups count, which of them go, and whose the program is that works on copies of them."""
+"""Which backups count, and whose the program is that works on copies of them."""
 import argparse
 import contextlib
 import dataclasses
-import datetime
 import io
 import os
 import sys
@@ -15,16 +14,15 @@ from typing import IO
 
 sys.path.insert(0, os.path.join(os.path.dirname(__file__), "..", "..", "admin"))
 
-from rooms_admin.host import locks, safe, tempdirs, waiting  # noqa: E402
+from rooms_admin.host import safe, tempdirs, waiting  # noqa: E402
 from rooms_admin.room import program, published, server, settings  # noqa: E402
 from rooms_admin.passwords import passwords  # noqa: E402
-from rooms_admin.backup import backups, hours, texts, tidying  # noqa: E402
+from rooms_admin.backup import backups, hours, texts  # noqa: E402
 from rooms_admin.lists import dump  # noqa: E402
 from rooms_admin.people import known, members, offered  # noqa: E402
 from rooms_admin.directory import groups  # noqa: E402
 from rooms_admin.backup import verb_backups, verb_latest  # noqa: E402
 from rooms_admin.cli.report import Refused, Stop  # noqa: E402
-from rooms_admin.room.keep import Keep, read  # noqa: E402
 from rooms_admin.backup.backups import Backup  # noqa: E402
 
 
@@ -195,11 +193,7 @@ class Found(Folder):
                 known.change(self.room, set(), both, set())
             self.assertIsNone(known.kept(self.room))
             known.try_to_keep(self.room, self.here(both, "2026-01-01.050000"))
-            os.replace(self.room.file, f"{self.room.file}.before")
-            with open(self.room.file, "wb"):
-                self.assertEqual((run.known(), known.newest(self.room).members),
-                                 (None, {("staff", "alice")}))
-            os.replace(f"{self.room.file}.before", self.room.file)
+            self._another_file(run)
             self.assertEqual(run.known(), both)
             self.backup("2026-01-02.040000", 8, lists="member a night\n")
             self.assertEqual(run.known(), {("a", "night")})
@@ -210,6 +204,14 @@ class Found(Folder):
             self.assertEqual(run.known(), both)
             self.backup("2026-01-03.040000", 0, lists="member a later\n")
             self.assertEqual(run.known(), {("a", "later")})
+
+    def _another_file(self, run: groups.Run) -> None:
+        """In the place of the room's, for a while: of it only the backup is known."""
+        os.replace(self.room.file, f"{self.room.file}.before")
+        with open(self.room.file, "wb"):
+            self.assertEqual((run.known(), known.newest(self.room).members),
+                             (None, {("staff", "alice")}))
+        os.replace(f"{self.room.file}.before", self.room.file)
 
     def test_an_earlier_version_kept_what_was_known(self) -> None:
         self.backup("2026-01-01.040000", 7, lists="member staff alice\n")
@@ -333,86 +335,6 @@ class Found(Folder):
                     look(self.room, "latest")
                 self.assertEqual(str(said.exception), f"{self.backups} doesn't answer within 0 s: "
                                  "does its disk hang?")
-
-
-class Goes(Folder):
-    def test_the_oldest_go(self) -> None:
-        one, two, three = (Backup(n, f"2026-01-0{n}.040000", "/b") for n in (1, 2, 3))
-        self.assertEqual(tidying.beyond([one, two, three], Keep(2), "2026-01-04.040000"),
-                         [one, two])
-        self.assertEqual(tidying.beyond([one, two, three], Keep(9), "2026-01-04.040000"), [])
-        self.assertEqual(tidying.beyond([], Keep(1), "2026-01-04.040000"), [])
-
-    def test_nothing_younger_than_what_stays(self) -> None:
-        """A lower number on the youngest one doesn't make it go; nor does a clock set back."""
-        one, two = (Backup(n, f"2026-01-0{n}.040000", "/b") for n in (1, 2))
-        young = Backup(0, "2026-01-03.040000", "/b")
-        self.assertEqual(tidying.beyond([young, one, two], Keep(2), "2026-01-04.040000"), [one])
-        self.assertEqual(tidying.beyond([young, one, two], Keep(3), "2026-01-04.040000"), [])
-        self.assertEqual(tidying.beyond([one, two, young], Keep(1), "2025-12-01.040000"), [])
-
-    def test_weeks_months_and_years(self) -> None:
-        """Night after night for six years: the last nights, and the last one of each period."""
-        keep = read("14 nights 8 weeks 12 months 5 years")
-        self.assertEqual(keep, Keep(14, 8, 12, 5))
-        day, left = datetime.date(2020, 1, 1), list[Backup]()
-        for number in range(1, 2193):
-            name = f"{day}.040000"
-            for one in tidying.beyond(left, keep, name):
-                left.remove(one)
-            left.append(Backup(number, name, "/b"))
-            day += datetime.timedelta(1)
-        self.assertEqual(day, datetime.date(2026, 1, 1))
-        nights = [f"2025-12-{n}" for n in range(18, 32)]
-        # Sundays, which end a week; the ends of months and of years.
-        weeks = ["2025-11-16", "2025-11-23", "2025-11-30", "2025-12-07", "2025-12-14", "2025-12-21",
-                 "2025-12-28"]
-        ends = (31, 28, 31, 30, 31, 30, 31, 31, 30, 31, 30)
-        months = [f"2025-{month:02}-{last}" for month, last in enumerate(ends, 1)]
-        years = ["2021-12-31", "2022-12-31", "2023-12-31", "2024-12-31"]
-        self.assertEqual([one.name[:10] for one in left],
-                         sorted({*nights, *weeks, *months, *years}))
-
-    def test_what_keep_may_say(self) -> None:
-        for text, wanted in (("30", Keep(30)), ("0", Keep(0)), ("7 nights", Keep(7)),
-                             ("2 nights 3 years", Keep(2, years=3)),
-                             ("10 nights 4 weeks 6 months", Keep(10, 4, 6))):
-            self.assertTrue(settings.of_kind(settings.Room)["keep"].fits(text), text)
-            self.assertEqual(read(text), wanted)
-        for text in ("", "-1", "1 nights 2 weeks", "0 nights", "8 weeks", "30 weeks 2 nights",
-                     "30 nights 0 weeks", "30 nights, 2 weeks", "30 nights 2 weeks 2 weeks",
-                     "1234567", "30 nights "):
-            self.assertFalse(settings.of_kind(settings.Room)["keep"].fits(text), text)
-
-    def test_a_name_that_is_no_day_stays_alone(self) -> None:
-        odd = Backup(1, "2026-13-45.040000", "/b")
-        two = Backup(2, "2026-01-02.040000", "/b")
-        self.assertEqual(tidying.beyond([odd, two], Keep(2, 1), "2026-01-03.040000"), [])
-
-    def test_what_was_cut_off_is_told_and_what_cannot_be_read_is_not(self) -> None:
-        os.makedirs(f"{self.backups}/office/2026-01-01.040000.part", 0o700)
-        os.makedirs(f"{self.backups}/2026-01-01.040000.part", 0o700)
-        at = self.backup("2026-01-02.040000.part")
-        with open(f"{self.backups}/office/2026-01-03.040000", "w", encoding="ascii"):
-            pass
-        cut = self.backup("2026-01-04.040000", 5)
-        with open(f"{cut}/unfinished", "w", encoding="ascii"):
-            pass
-        # One that was going: of it there are lists and a number left.
-        with (unittest.mock.patch.object(os.path, "lexists", side_effect=[True, KeyboardInterrupt]),
-              self.assertRaises(KeyboardInterrupt)):
-            tidying.remove(self.room, self.backup("2026-01-05.040000", 4, lists="x\n"), "")
-        with unittest.mock.patch.object(locks, "RUN", self.home):
-            told = tidying.left(self.room, at)
-        self.assertEqual(sorted(told), [
-            *(f"interrupted: an earlier run was cut off, and left no backup of 2026-01-0{day}"
-              ".040000; what it had copied is removed" for day in (1, 5)),
-            "interrupted: an earlier run was cut off, and the backup of 2026-01-04.040000 may lack "
-            "a part of what is written beside it"])
-        self.assertEqual(sorted(os.listdir(f"{self.backups}/office")), [
-            "2026-01-02.040000.part", "2026-01-03.040000", "2026-01-04.040000"])
-        # In BACKUPS itself it may be another room's.
-        self.assertEqual(sorted(os.listdir(self.backups)), ["2026-01-01.040000.part", "office"])
 
 
 class Copies(Folder):

@@ -472,6 +472,8 @@ class Words(unittest.TestCase):
                 self.read(*typed)
             self.assertEqual(str(caught.exception).split("; rooms-admin ")[0],
                              f"bad arguments: {what}", typed)
+
+    def test_how_it_is_typed_is_said_then(self) -> None:
         with self.assertRaisesRegex(Refused, r"; rooms-admin get \[--room ROOM\] BACKUP PATH$"):
             self.read("get")
         with self.assertRaisesRegex(

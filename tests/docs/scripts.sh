@@ -1,5 +1,6 @@
 # The scripts of admin/, deploy/ and tools/: shellcheck has no note on any of them. And no line of
-# these, of the web interface, of the cases and of what they share is wider than 100 columns.
+# these, of the web interface, of the cases and of what they share is wider than 100 columns, no
+# file has 500 lines, and no function of Python more than 40.
 
 # Lines over 100 columns, where a byte that continues a letter isn't counted. A shell's line may be
 # wider for a text between quotes that fills one by itself: it is compared or sent byte by byte.
@@ -27,6 +28,21 @@ printf '%s\n' "${long}é" "$long yz" "echo '$long'" "# '$long'" "echo \"\\\"$lon
 wide_lines wide.sh >found
 printf 'wide.sh:%s columns\n' '2: 102' '4: 103' '6: 108' >wanted
 same 'a wide one is found' found wanted
+
+# (what tests compare or send, and the files that name all others, are as long as they have to be)
+sizes() { find "$@" -type f -print0 | sort -z | xargs -0r python3 "$here/docs/sizes.py"; }
+if has python3; then
+  sizes "$repo"/{admin,services,deploy,web,tools} "$here" -not -path "$here/data/*" \
+    -not -name '*.pyc' -not -name '*.passed' >found 2>&1
+  same 'no file or function is too long' found /dev/null
+  { echo 'def one():'; printf '    a = %s\n' {1..40}; } >long.py
+  printf 'a = %s\n' {1..500} >many.conf.in
+  sizes long.py many.conf.in >found
+  printf '%s\n' 'long.py:1: one has 41 lines' 'many.conf.in: 500 lines' >wanted
+  same 'a long one is found' found wanted
+else
+  skip 'sizes' 'python3 is missing'
+fi
 
 # A command between a message's quotes has a status of its own, so the one that is meant is kept
 # before.

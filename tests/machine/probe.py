@@ -52,7 +52,7 @@ def owns():
     os.chown("/var/tmp/probe", 0, 0)
 
 
-def main():
+def on_disk():
     for path in ("/etc/shadow", "/var/lib/rooms-passwords/rooms.htpasswd", "/etc/rooms/office.conf",
                  "/etc/rooms/passwords.key", "/etc/ssl/private/probe.key", "/proc/1/environ",
                  "/root/rooms.deb", "/var/log/nginx/access.log", "/etc/nginx/nginx.conf"):
@@ -74,6 +74,10 @@ def main():
     link = "/var/lib/rooms-changes/office/link"
     tries("have nginx write elsewhere", lambda: os.symlink("/var/log/nginx/access.log", link))
     tries("have nginx wait", lambda: os.mkfifo(f"{link}.pipe"))
+
+
+def main():
+    on_disk()
     for path in ("/run/rooms/office/socket", "/run/rooms/invoices/socket",
                  "/run/rooms-server/office/socket", "/run/rooms-server/invoices/socket",
                  "/run/rooms-front/passwords.sock", "/run/rooms-own-password/socket",

@@ -27,9 +27,6 @@ if has flake8; then
 else
   skip 'style of the door' 'flake8 is missing'
 fi
-find "$services"/rooms_services/{room,door} -name '*.py' -exec wc -l {} + |
-  awk '$2 != "total" && $1 >= 500 { print $2 }' >found
-same 'no file has 500 lines' found /dev/null
 # Who may remove what, in every case, as the program has it.
 python3 -B "$here/model/removing.py" "$rooms" >cases 2>"$work/err"
 PYTHONPATH=$services:$repo/admin python3 -B "$here/services/removals.py" <cases >"$work/out" \

@@ -25,9 +25,6 @@ if has flake8; then
 else
   skip 'style of a search' 'flake8 is missing'
 fi
-find "$services"/rooms_services/{document_texts,door/search} -name '*.py' -exec wc -l {} + |
-  awk '$2 != "total" && $1 >= 500 { print $2 }' >found
-same 'no file has 500 lines' found /dev/null
 has pdftotext || skip 'texts of PDF' 'pdftotext is missing'
 has tesseract || skip 'texts of scans' 'tesseract is missing'
 for suite in test_texts test_store test_search test_search_large; do

@@ -150,6 +150,17 @@ class Figures:
         self.note(what, self.browser.driver.execute_async_script(TIMED % (FIND, FOUND)), before)
 
 
+def see_counts(figures, checks):
+    checks.holds('each was taken twice', all(len(one) == 2 for one in figures.rows.values()),
+                 figures.rows)
+    # (of what lies near it is asked once more where what lies below takes longer than that)
+    counts = [len(one) for one in figures.shares]
+    checks.holds('a share asks once what lies below, and no oftener by how much that is',
+                 all(sum('/door/below/' in target for target in one) == 1
+                     for one in figures.shares) and max(counts) <= min(counts) + 1,
+                 figures.shares)
+
+
 def main():
     folder, port, log, line, place, *more = sys.argv[1:]
     sizes, table = [int(one) for one in more[:3]], more[3:]
@@ -180,14 +191,7 @@ def main():
                 f'a name among {all_of} objects'))
         finally:
             figures.browser.quit()
-    checks.holds('each was taken twice', all(len(one) == 2 for one in figures.rows.values()),
-                 figures.rows)
-    # (of what lies near it is asked once more where what lies below takes longer than that)
-    counts = [len(one) for one in figures.shares]
-    checks.holds('a share asks once what lies below, and no oftener by how much that is',
-                 all(sum('/door/below/' in target for target in one) == 1
-                     for one in figures.shares) and max(counts) <= min(counts) + 1,
-                 figures.shares)
+    see_counts(figures, checks)
     for name in table:
         with open(name, 'w', encoding='utf-8') as out:
             for what, cells in figures.rows.items():

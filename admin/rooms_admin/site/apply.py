@@ -100,12 +100,7 @@ def show(made: Changes) -> bool:
     made.file(template.FILE, text.encode(errors="surrogateescape"))
     changed = made.count > count
     changed = enable(made) or changed or is_unread
-    if not root and not made.dry:
-        if refusal := changes.nginx_refuses():
-            made.put_back()
-            if not is_unread:
-                _read(made)
-            raise Stop(f"nginx refuses its files, and they are as before: {refusal}")
+    _see_refused(made, is_unread)
     made.forget()
     made.file(template.START, start)
     if changed:
@@ -117,6 +112,16 @@ def show(made: Changes) -> bool:
     if changed:
         _see_tls(made, wanted)
     return listen
+
+
+def _see_refused(made: Changes, is_unread: bool) -> None:
+    if made.root or made.dry:
+        return
+    if refusal := changes.nginx_refuses():
+        made.put_back()
+        if not is_unread:
+            _read(made)
+        raise Stop(f"nginx refuses its files, and they are as before: {refusal}")
 
 
 def _see_tls(made: Changes, wanted: template.Site) -> None:
