@@ -40,6 +40,7 @@ only "members' rows are written and read" 'group,user' people/members
 only 'the members of a room are changed' '\bmembers[.]change\(' people/known
 only 'what was known of them is kept' 'members[.]csv' people/known
 only 'a file of a spreadsheet is read' 'open[(].*"utf-8-sig"|csv[.]reader[(]io' people/spreadsheet
+only 'it is said who owns something or is in a group' 'owner if isinstance' lists/dump
 only 'a server is stopped' 'systemctl\("stop"' room/server
 only 'a server is started' 'systemctl\("start", [a-z.]*unit' room/server
 only 'it is said how long a room may take' '\bANSWER(_SECONDS)? = |_timeout [0-9]+s' room/waits

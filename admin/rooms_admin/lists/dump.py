@@ -88,6 +88,11 @@ def parsed(lines: Iterable[bytes]) -> Iterator[Object]:
     return (one for one in rows(lines) if isinstance(one, Object))
 
 
+def users(found: Iterable[Object | Pair]) -> set[str]:
+    """Who owns something or is in a group."""
+    return {one.owner if isinstance(one, Object) else one[1] for one in found}
+
+
 def members(lines: Iterable[bytes]) -> set[Pair]:
     return {one for one in rows(line for line in lines if line.startswith(b"member "))
             if isinstance(one, tuple)}

@@ -6,16 +6,13 @@ from ..cli import alike
 from ..passwords import passwords
 from ..room.settings import Room
 from . import dump
-from .dump import Object
 from .entries import entry
 
 
 def _users(room: Room, lists: bytes) -> set[str]:
     """Who has a password, is in a group or owns something."""
-    found = set[str]().union(*map(passwords.users, passwords.password_files(room.name)))
-    for one in dump.rows(lists.split(b"\n")):
-        found.add(one.owner if isinstance(one, Object) else one[1])
-    return found
+    return dump.users(dump.rows(lists.split(b"\n"))).union(
+        *map(passwords.users, passwords.password_files(room.name)))
 
 
 def told(room: Room, lists: bytes, lines: Iterable[str]) -> Iterator[str]:

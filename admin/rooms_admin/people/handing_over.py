@@ -18,11 +18,6 @@ def rows(path: str) -> Iterator[dump.Object | dump.Pair]:
         yield from dump.rows(source)
 
 
-def _borne(path: str) -> set[str]:
-    """Names of users."""
-    return {one.owner if isinstance(one, dump.Object) else one[1] for one in rows(path)}
-
-
 def _known_here(conf: str) -> set[str]:
     """Who has a password, or is in a group by now. Of a room elsewhere nobody is known."""
     if not is_here(conf):
@@ -37,7 +32,7 @@ def need_both(room: str, lists: str, giver: str, taker: str, is_new: bool) -> No
     """A name that nobody has is most often another one, mistyped, and a later user of it would have
     what is given."""
     _look_at(lists, giver, taker)
-    borne = _borne(lists)
+    borne = dump.users(rows(lists))
     if giver not in borne:
         raise Stop(f"nobody: {giver} owns nothing and is in no group, as {lists} says"
                    f"{alike.meant(giver, borne)}")

@@ -65,11 +65,6 @@ def _rows(lists: bytes) -> Iterator[Object | dump.Pair]:
     return dump.rows(lists.split(b"\n"))
 
 
-def _borne(lists: bytes) -> set[str]:
-    """Names of users."""
-    return {one.owner if isinstance(one, Object) else one[1] for one in _rows(lists)}
-
-
 def _need_heir(asked: Leaving, room: Room) -> None:
     """Before anything has changed. No disk of backups is asked."""
     last = known.kept(room)
@@ -80,7 +75,7 @@ def _need_heir(asked: Leaving, room: Room) -> None:
         lists = _dump(asked, room)
     if not any(naming.of_user(_rows(lists), asked.heir)):
         raise Refused(f"no heir: nobody is called {asked.heir}"
-                      f"{alike.meant(asked.heir, has | _borne(lists))}")
+                      f"{alike.meant(asked.heir, has | dump.users(_rows(lists)))}")
 
 
 def leave(asked: Leaving) -> int:
@@ -107,8 +102,9 @@ def leave(asked: Leaving) -> int:
         lists = dumped
         found = list(naming.of_user(_rows(lists), asked.name))
         if not done and not found:
+            there = has | dump.users(_rows(lists))
             say(f"nobody: {asked.name} has no password in {asked.file}, is in no group, owns "
-                f"nothing and stands in no list{alike.meant(asked.name, has | _borne(lists))}")
+                f"nothing and stands in no list{alike.meant(asked.name, there)}")
             return 1
         _tell_last(asked, room, lists)
         _leave_groups(asked, room, before, newest_one)
