@@ -4,8 +4,10 @@ import argparse
 import os
 import shlex
 import time
+from collections.abc import Iterator
+from contextlib import contextmanager
 
-from ..host import changes
+from ..host import changes, locks
 from ..room import forms, names, published, settings
 from . import apply, password_files, ports, setting_up, template
 from ..cli import report
@@ -15,7 +17,7 @@ from ..host.changes import Changes
 _BAD_IN_TITLE = set("\\\"'`$")
 
 
-def look_at_name(name: str) -> None:
+def _look_at_name(name: str) -> None:
     """It is a part of paths, addresses and names of units."""
     if not names.is_room(name):
         raise Refused(f"bad name: '{name}' isn't 1 to 32 of a-z, 0-9 and '-', with a letter or "
@@ -26,7 +28,7 @@ def look_at_name(name: str) -> None:
         raise Refused(f"bad name: /{name} belongs to the site itself")
 
 
-def look_at_machine(made: Changes) -> None:
+def _look_at_machine(made: Changes) -> None:
     if not os.path.isdir(made.root + "/etc/rooms"):
         raise Refused(f"not installed: {made.root}/etc/rooms isn't there")
     if not os.path.exists(made.root + template.SETTINGS):
@@ -46,6 +48,16 @@ def _look_at_title(title: str) -> None:
             or any(one < " " or one == "\x7f" for one in title)):
         raise Refused("bad title: at most 100 characters, none of \\ \" ' ` $, and no space at an "
                       "end")
+
+
+@contextmanager
+def alone_with(made: Changes, name: str) -> Iterator[None]:
+    """While a room of that name comes or goes, if it may at all."""
+    _look_at_name(name)
+    _look_at_machine(made)
+    with locks.machine(made.root, made.dry):
+        apply.refuse_edited(made.root)
+        yield
 
 
 class NewRoom:

@@ -45,16 +45,21 @@ def first_of(file: str) -> bytes:
     return ssl.PEM_cert_to_DER_cert(begin + rest.partition(_END)[0] + _END)
 
 
+def _shows(file: str) -> bool:
+    """Whether nginx has the certificate of that file."""
+    asked = Named(settings.front(root.ROOT + template.SETTINGS).hosts[0])
+    asked.connect()
+    asked.close()
+    return asked.certificate == first_of(file)
+
+
 def see_renewal(file: str) -> str:
     """Whether nginx still has another certificate than the file, which would end unseen. What can't
     be compared is told by other looks."""
     if not shows_rooms():
         return ""
     try:
-        asked = Named(settings.front(root.ROOT + template.SETTINGS).hosts[0])
-        asked.connect()
-        asked.close()
-        if asked.certificate == first_of(file):
+        if _shows(file):
             return ""
     except (OSError, ValueError, Refused):
         return ""
@@ -67,10 +72,7 @@ def see_reload(file: str) -> str:
     until = time.monotonic() + 5
     while time.monotonic() < until:
         try:
-            asked = Named(settings.front(root.ROOT + template.SETTINGS).hosts[0])
-            asked.connect()
-            asked.close()
-            if asked.certificate == first_of(file):
+            if _shows(file):
                 return ""
         except (OSError, ValueError):
             pass

@@ -3,9 +3,8 @@ machine. The room gets a file, settings, a unit, a nightly run, passwords, a fol
 import argparse
 
 from ..cli import words
-from ..host import locks
 from ..host.changes import changes_asked_for
-from . import adding, apply
+from . import adding
 from ..cli.report import Refused
 
 
@@ -44,10 +43,7 @@ def run(given: argparse.Namespace) -> int:
     on = given.on.lower()
     made = changes_asked_for(given.destdir, given.dry_run)
     name = given.name
-    adding.look_at_name(name)
-    adding.look_at_machine(made)
-    with locks.machine(made.root, made.dry):
-        apply.refuse_edited(made.root)
+    with adding.alone_with(made, name):
         if on:
             return adding.elsewhere(made, name, on, given.port or "8443", given.title or name)
         room = adding.NewRoom(made, given)

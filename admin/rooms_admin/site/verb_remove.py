@@ -5,7 +5,6 @@ import argparse
 import os
 
 from ..cli import words
-from ..host import locks
 from ..host.changes import changes_asked_for
 from ..room import settings
 from . import adding, apply, password_files, removing
@@ -19,10 +18,7 @@ def arguments(parser: words.Parser) -> None:
 def run(given: argparse.Namespace) -> int:
     made = changes_asked_for(given.destdir, given.dry_run)
     name = given.name
-    adding.look_at_name(name)
-    adding.look_at_machine(made)
-    with locks.machine(made.root, made.dry):
-        apply.refuse_edited(made.root)
+    with adding.alone_with(made, name):
         on = f"/etc/rooms/{name}.on"
         if os.path.lexists(made.root + on):
             there = settings.value(made.root + on, "ON")

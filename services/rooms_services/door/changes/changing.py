@@ -100,13 +100,11 @@ class Changing:
         self._store.put(above, change.names[-1], False, size, by)
 
     def _make(self, change: Change, by: By) -> None:
-        if not change.is_done:
-            self._unsure(change.names[:-1])
-            return
-        above = self._store.folder(change.names[:-1])
-        self._clear(change.names)
-        self._store.touch(above, by)
-        self._store.put(above, change.names[-1], True, None, by)
+        # (a line may have been lost of what was there)
+        self._remove(change, by)
+        if change.is_done:
+            above = self._store.folder(change.names[:-1])
+            self._store.put(above, change.names[-1], True, None, by)
 
     def _remove(self, change: Change, by: By) -> None:
         if not change.is_done:
