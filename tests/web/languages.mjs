@@ -127,6 +127,15 @@ for (const [language, table] of Object.entries(TABLES)) {
 if (others.length < 2) told.push(`the languages are ${Object.keys(LANGUAGES).join()}`);
 for (const [path, value] of entriesOf(EN)) if (typeof value === 'function') say(path, value);
 
+// What is too long is called what it is.
+const { sentenceOf } = await module('words.js');
+for (const [word, wanted] of [['doc', /^This has more than 1,048,576 bytes/],
+  ['dacl', /^The access list is too long\./],
+  ['sacl', /^The list of what is recorded is too long\./]]) {
+  const said = sentenceOf({ status: 413, body: null, asked: { method: 'PUT', word, path: '/' } });
+  if (!wanted.test(said)) told.push(`of ${word} with 413 it is said “${said}”`);
+}
+
 // What the other modules say, and which entries they use.
 const files = readdirSync(web, { recursive: true, withFileTypes: true })
   .filter((one) => one.name.endsWith('.js')).map((one) => join(one.path, one.name))

@@ -144,6 +144,12 @@ export const DE_FAULTS = {
   largeAt: (at, bytes) => `Was an ${at} liegen soll, ${MOST(bytes)}`,
   largeThis: (bytes) => `Dieses Dokument ${MOST(bytes)}`,
   largeFile: (bytes) => `Es ${MOST(bytes)}`,
+  longLists: {
+    dacl: 'Die Zugriffsliste ist zu lang. Entfernen Sie Einträge, die niemand mehr braucht, oder '
+      + 'nehmen Sie Personen in eine Gruppe auf, und nennen Sie stattdessen diese.',
+    sacl: 'Die Liste dessen, was protokolliert wird, ist zu lang. Entfernen Sie Einträge, die '
+      + 'niemand mehr braucht.',
+  },
   leftFor: LEFT,
   twice: 'Der Raum hat zuerst nicht geantwortet, also wurde es vielleicht schon ausgeführt: Sehen '
     + 'Sie nach.',

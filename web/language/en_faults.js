@@ -126,6 +126,11 @@ export const EN_FAULTS = {
   largeAt: (at, bytes) => `${at} ${MOST(bytes)}`,
   largeThis: (bytes) => `This ${MOST(bytes)}`,
   largeFile: (bytes) => `It ${MOST(bytes)}`,
+  longLists: {
+    dacl: 'The access list is too long. Remove entries that nobody needs any more, or put people '
+      + 'into a group and name that instead.',
+    sacl: 'The list of what is recorded is too long. Remove entries that nobody needs any more.',
+  },
   leftFor: LEFT,
   twice: 'The room didn’t answer at first, so it may have been carried out already: look.',
   noName: 'Type a name.',

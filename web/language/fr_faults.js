@@ -139,6 +139,12 @@ export const FR_FAULTS = {
   largeAt: (at, bytes) => `Ce qui est prévu à ${at} a ${MOST(bytes)}`,
   largeThis: (bytes) => `Ce document a ${MOST(bytes)}`,
   largeFile: (bytes) => `Il a ${MOST(bytes)}`,
+  longLists: {
+    dacl: 'La liste d’accès est trop longue. Supprimez les entrées dont personne n’a plus besoin, '
+      + 'ou mettez des personnes dans un groupe, et nommez plutôt celui-ci.',
+    sacl: 'La liste de ce qui est journalisé est trop longue. Supprimez les entrées dont personne '
+      + 'n’a plus besoin.',
+  },
   leftFor: LEFT,
   twice: 'La salle n’a pas répondu d’abord, donc cela a peut-être déjà été exécuté : vérifiez.',
   noName: 'Saisissez un nom.',

@@ -135,6 +135,13 @@ function conflictWords(why, at) {
   return typeof words === 'string' ? words : words(at);
 }
 
+// A list has a limit of its own, which nginx keeps, and names no object.
+function longWords({ body, asked }, at) {
+  const ofList = texts.faults.longLists[asked?.word];
+  if (ofList) return ofList;
+  return body?.at ? texts.faults.largeAt(at, mostBytes()) : texts.faults.largeThis(mostBytes());
+}
+
 function answerWords(fault, ask) {
   const { status, body } = fault;
   if (status === undefined) return texts.faults.page(fault.message);
@@ -144,9 +151,7 @@ function answerWords(fault, ask) {
   if (status === 404) return texts.faults.nothingAt(at);
   if (status === 409) return conflictWords(body?.why, at);
   if (doorWords(fault) !== null) return doorWords(fault);
-  if (status === 413) {
-    return body?.at ? texts.faults.largeAt(at, mostBytes()) : texts.faults.largeThis(mostBytes());
-  }
+  if (status === 413) return longWords(fault, at);
   if (status === 507 && Number.isSafeInteger(body?.left)) return texts.faults.leftFor(body.left);
   if (status === 422) return faultWords(body?.why?.split(' ')[1]);
   const word = { 0: 'lost', [UNREADABLE]: 'unreadable' }[status] ?? status;
