@@ -1,11 +1,8 @@
 // When something changed and how large it is, in German.
 
-import { small } from './forms.js';
+import { small, writingOf } from './forms.js';
 
-const LOCALE = 'de-DE';
-const written = (time, form) => time.toLocaleString(LOCALE, form);
-const clock = (time) => written(time, { hour: '2-digit', minute: '2-digit' });
-const count = (many) => many.toLocaleString(LOCALE);
+const { clock, amount, dates } = writingOf('de-DE');
 
 export const DE_MOMENTS = {
   today: (time) => `Heute ${clock(time)}`,
@@ -18,10 +15,8 @@ export const DE_MOMENTS = {
   explained: 'Höchstens die letzten 50 von denen, die Sie lesen dürfen.',
   noDates: 'Dieser Raum hält keine Daten von Änderungen fest.',
   notShown: 'Was sich geändert hat, kann nicht gezeigt werden.',
-  thisYear: (time) => written(time, { day: 'numeric', month: 'short' }),
-  earlier: (time) => written(time, { day: 'numeric', month: 'short', year: 'numeric' }),
-  exact: (time) => written(time, { dateStyle: 'full', timeStyle: 'medium' }),
-  bytes: (many) => `${count(many)} B`,
-  kilobytes: (many) => `${count(many)} kB`,
-  megabytes: (many) => `${count(many)} MB`,
+  ...dates,
+  bytes: (many) => `${amount(many)} B`,
+  kilobytes: (many) => `${amount(many)} kB`,
+  megabytes: (many) => `${amount(many)} MB`,
 };

@@ -25,7 +25,7 @@ const LISTS = {
   unseenSign: 'This sign can’t be seen.',
 };
 
-const WHO = {
+const NAMED = {
   special: {
     'OWNER@': 'the owner',
     'GROUP@': 'the owning group',
@@ -35,18 +35,12 @@ const WHO = {
   },
   group: (name) => `the group ${name}`,
   user: (name) => `the user ${name}`,
+};
+
+const WHO = {
+  ...NAMED,
   // As the object of a sentence.
-  whom: {
-    special: {
-      'OWNER@': 'the owner',
-      'GROUP@': 'the owning group',
-      'EVERYONE@': 'everyone',
-      'ANONYMOUS@': 'callers without a name',
-      'AUTHENTICATED@': 'everyone with a name',
-    },
-    group: (name) => `the group ${name}`,
-    user: (name) => `the user ${name}`,
-  },
+  whom: NAMED,
   signingIn: 'everyone who signs in',
   others: 'everyone else who signs in',
   unknownOwner: 'whoever owns it',

@@ -1,11 +1,8 @@
 // When something changed and how large it is, in English.
 
-import { small } from './forms.js';
+import { small, writingOf } from './forms.js';
 
-const LOCALE = 'en-GB';
-const written = (time, form) => time.toLocaleString(LOCALE, form);
-const clock = (time) => written(time, { hour: '2-digit', minute: '2-digit' });
-const count = (many) => many.toLocaleString(LOCALE);
+const { clock, amount, dates } = writingOf('en-GB');
 
 export const EN_MOMENTS = {
   today: (time) => `Today ${clock(time)}`,
@@ -18,10 +15,8 @@ export const EN_MOMENTS = {
   explained: 'The latest 50 at most, of what you may read.',
   noDates: 'This room keeps no dates.',
   notShown: 'What changed can’t be shown.',
-  thisYear: (time) => written(time, { day: 'numeric', month: 'short' }),
-  earlier: (time) => written(time, { day: 'numeric', month: 'short', year: 'numeric' }),
-  exact: (time) => written(time, { dateStyle: 'full', timeStyle: 'medium' }),
-  bytes: (many) => `${count(many)} B`,
-  kilobytes: (many) => `${count(many)} kB`,
-  megabytes: (many) => `${count(many)} MB`,
+  ...dates,
+  bytes: (many) => `${amount(many)} B`,
+  kilobytes: (many) => `${amount(many)} kB`,
+  megabytes: (many) => `${amount(many)} MB`,
 };

@@ -18,6 +18,20 @@ export function formsOf(locale, and, or) {
   };
 }
 
+// How a language writes moments and amounts.
+export function writingOf(locale) {
+  const written = (time, form) => time.toLocaleString(locale, form);
+  return {
+    clock: (time) => written(time, { hour: '2-digit', minute: '2-digit' }),
+    amount: (many) => many.toLocaleString(locale),
+    dates: {
+      thisYear: (time) => written(time, { day: 'numeric', month: 'short' }),
+      earlier: (time) => written(time, { day: 'numeric', month: 'short', year: 'numeric' }),
+      exact: (time) => written(time, { dateStyle: 'full', timeStyle: 'medium' }),
+    },
+  };
+}
+
 // Names are set apart by a sign, so they stay as they are.
 export const capital = (text) => text.replace(/^\p{Ll}/u, (first) => first.toUpperCase());
 export const small = (text) => text.replace(/^\p{Lu}/u, (first) => first.toLowerCase());

@@ -1,11 +1,8 @@
 // When something changed and how large it is, in French.
 
-import { small } from './forms.js';
+import { small, writingOf } from './forms.js';
 
-const LOCALE = 'fr-FR';
-const written = (time, form) => time.toLocaleString(LOCALE, form);
-const clock = (time) => written(time, { hour: '2-digit', minute: '2-digit' });
-const count = (many) => many.toLocaleString(LOCALE);
+const { clock, amount, dates } = writingOf('fr-FR');
 
 export const FR_MOMENTS = {
   today: (time) => `Aujourd’hui ${clock(time)}`,
@@ -18,10 +15,8 @@ export const FR_MOMENTS = {
   explained: 'Les 50 derniers au plus que vous pouvez lire.',
   noDates: 'Cette salle ne note pas de dates.',
   notShown: 'Ce qui a changé ne peut pas être affiché.',
-  thisYear: (time) => written(time, { day: 'numeric', month: 'short' }),
-  earlier: (time) => written(time, { day: 'numeric', month: 'short', year: 'numeric' }),
-  exact: (time) => written(time, { dateStyle: 'full', timeStyle: 'medium' }),
-  bytes: (many) => `${count(many)} o`,
-  kilobytes: (many) => `${count(many)} ko`,
-  megabytes: (many) => `${count(many)} Mo`,
+  ...dates,
+  bytes: (many) => `${amount(many)} o`,
+  kilobytes: (many) => `${amount(many)} ko`,
+  megabytes: (many) => `${amount(many)} Mo`,
 };
