@@ -130,7 +130,8 @@ class Sockets(unittest.TestCase):
 
         def began() -> list[object]:
             said: list[object] = []
-            for before in (processes.make_no_folders, processes.hand_on_no_right):
+            for before in (processes.reach_nobody, processes.make_no_folders,
+                           processes.hand_on_no_right):
                 with commands.started(["echo", "began"], before) as one:
                     out, told = one.communicate()
                     said += [one.returncode, out.decode(), told.decode().partition(":")[0]]
@@ -149,9 +150,9 @@ class Sockets(unittest.TestCase):
         no_filter = [3, "", "no filter of calls"]
         fewer = [3, "", "no fewer rights"]
         rest = [*no_filter * 2, "no filter of calls"]
-        self.assertEqual(waiting.answer(20, refused, "x"), [*no_filter, *fewer, *rest])
+        self.assertEqual(waiting.answer(20, refused, "x"), [*no_filter * 2, *fewer, *rest])
         with mock.patch.object(processes, "_IS_THAT_ONE", False):
-            self.assertEqual(began(), [*no_filter, 0, "began\n", "", *rest])
+            self.assertEqual(began(), [*no_filter * 2, 0, "began\n", "", *rest])
 
 
 def asks(folder: str, says: int, user: str, until: int = -1) -> None:
