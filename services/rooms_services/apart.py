@@ -122,4 +122,5 @@ def given(most: int) -> Iterator[tuple[str, int]]:
 
 
 def answer(head: dict[str, object], body: bytes = b"") -> None:
-    safe.write_all(1, written({**head, "length": len(body)}) + b"\n" + body)
+    told: dict[str, object] = {**head, "length": len(body)}
+    safe.write_all(1, written(told) + b"\n" + body)

@@ -19,7 +19,7 @@ sys.path.insert(0, os.path.join(os.path.dirname(__file__), "..", "..", "admin"))
 from rooms_admin.host import root  # noqa: E402
 from rooms_admin.room import fullness, limit, needs, server, settings, size  # noqa: E402
 from rooms_admin.passwords import passwords  # noqa: E402
-from rooms_admin.site import connections  # noqa: E402
+from rooms_admin.site import connections, template  # noqa: E402
 from rooms_admin.backup import night, texts  # noqa: E402
 from rooms_admin.directory import groups  # noqa: E402
 from rooms_admin.check import watched  # noqa: E402
@@ -159,9 +159,9 @@ class Needs(Folder):
         with patch.object(fullness, "Reader"), patch.object(fullness, "FOLDER", self.home):
             watch = fullness.Watch(self.room)
             self.assertEqual(watch.limit, 816)
-            watch.used.look = lambda: 0  # type: ignore[method-assign]
             needs.put("office", Need("2026-11-30.040000", 49, 282))
-            watch.look()
+            with patch.object(watch.used, "look", return_value=0):
+                watch.look()
             self.assertEqual(watch.limit, 404)
 
     def test_a_night_writes_it_down(self) -> None:
@@ -221,7 +221,7 @@ class Guests(Folder):
     def test_check_says_it(self) -> None:
         site = types.SimpleNamespace(shown=[self.letting(True), self.letting(False)])
         with patch.object(passwords, "users", return_value={"eve"}), \
-                patch.object(watched.template, "gather", return_value=site), \
+                patch.object(template, "gather", return_value=site), \
                 patch.object(settings, "directory", return_value=None), \
                 patch.object(watched, "Directory", lambda _: self.asked()):
             (level, said), = watched.see_guests()

@@ -355,7 +355,7 @@ class Sites(unittest.TestCase):
                      "    ledger ledger.full;"):
             self.assertIn(line + "\n", text)
         # Whoever asks a room waits for its copy. (15: who checks passwords)
-        for name, others in (("read", {15.0}), ("send", set())):
+        for name, others in (("read", {15.0}), ("send", set[float]())):
             waited = {float(one) for one in re.findall(rf" proxy_{name}_timeout (\d+)s;", text)}
             self.assertEqual(waited - others, {waits.ANSWER})
         self.assertGreater(waits.ANSWER, waits.LONGEST)

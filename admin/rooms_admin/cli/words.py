@@ -70,8 +70,8 @@ class Parser(argparse.ArgumentParser):
 
     def has_parts(self, dest: str, parts: dict[str, str]) -> list["Parser"]:
         """What is done is a word of its own, here with what each is for."""
-        made = self.add_subparsers(dest=dest, metavar=dest.upper(), prog=self.prog, required=True,
-                                   parser_class=Parser)
+        made: Any = self.add_subparsers(dest=dest, metavar=dest.upper(), prog=self.prog,
+                                        required=True, parser_class=Parser)
         self.parts = {name: made.add_parser(name, about=about, is_part=True)
                       for name, about in parts.items()}
         return list(self.parts.values())

@@ -18,7 +18,8 @@ def _form(pairs: Iterable[tuple[str, str]]) -> _Form:
 
 
 _KNOWN: dict[str, dict[_Form, str]] = {
-    kind: {_form(map(tuple, way)): level for level, ways in _FORMS[kind].items() for way in ways}
+    kind: {_form((flags, mask) for flags, mask in way): level
+           for level, ways in _FORMS[kind].items() for way in ways}
     for kind in ("folder", "document")}
 
 
