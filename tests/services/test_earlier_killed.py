@@ -61,12 +61,22 @@ def until(what: object, seconds: float = PATIENCE) -> bool:
     return True
 
 
+def rows_of(place: str) -> list[list[str]]:
+    """Of this socket, and of each connection to it: their flags, and how far they are, are the
+    fourth and the sixth."""
+    with open("/proc/net/unix", encoding="utf-8") as rows:
+        return [row.split() for row in rows if row.endswith(f" {place}\n")]
+
+
 def listens(place: str) -> bool:
     """Whether somebody does at this socket, which is there a moment earlier. A connection would
     start who answers."""
-    with open("/proc/net/unix", encoding="utf-8") as rows:
-        return any(row.split()[3] == "00010000" and row.endswith(f" {place}\n")
-                   for row in [*rows][1:])
+    return any(row[3] == "00010000" for row in rows_of(place))
+
+
+def has_all(place: str) -> bool:
+    """Whether all who connected are taken in: nobody waits in line."""
+    return not any(row[5] == "02" for row in rows_of(place))
 
 
 class Killed(unittest.TestCase):
@@ -181,11 +191,10 @@ class Killed(unittest.TestCase):
     def killed(self, judge: int, count: int) -> int:
         """By so many users who wait. The process that answers from then on."""
         self.then.may.clear()
-        files = self.files(judge)
         links = [self.asks("reply", f"user{number}") for number in range(count)]
         # (a room answers one after the other, and the next judge answers who still waits in line)
         self.assertTrue(self.then.is_asked.acquire(timeout=PATIENCE))
-        self.assertTrue(until(lambda: self.files(judge) >= files + count))
+        self.assertTrue(until(lambda: has_all(self.at)))
         os.kill(judge, signal.SIGKILL)
         began = time.monotonic()
         self.assertEqual({self.rest(link) for link in links}, {b""})
