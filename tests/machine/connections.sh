@@ -126,6 +126,31 @@ does 'an account sends to as many as it likes' 'at=/proc/sys/net/netfilter/nf_co
 holds "the table has few of them: $(cat "$work/out")" [ "$(cat "$work/out")" -lt 5000 ]
 holds 'and was asked for them' [ "$(cat "$work/out")" -gt 1000 ]
 
+# One that has ended doesn't count, and stays there for two minutes.
+cat >"$machine/usr/local/lib/ends.py" <<'END'
+import socket
+import time
+
+listening = socket.create_server(("127.0.0.1", 0), backlog=4096)
+ends, made = time.monotonic() + 8, 0
+while time.monotonic() < ends:
+    with socket.socket() as one:
+        one.settimeout(0.2)
+        made += 1
+        one.bind((f"127.2.{made >> 12}.1", 0))
+        try:
+            one.connect(listening.getsockname())
+            listening.accept()[0].close()
+        except OSError:
+            pass
+END
+does 'an account begins and ends as many as it likes' '
+  at=/proc/sys/net/netfilter/nf_conntrack_count; before=$(cat $at)
+  for each in 1 2 3; do setpriv --reuid=nobody --regid=nogroup --clear-groups \
+    python3 -I /usr/local/lib/ends.py & done; wait; echo $(($(cat $at) - before))'
+holds "the table has few of these: $(cat "$work/out")" [ "$(cat "$work/out")" -lt 9000 ]
+holds 'and was asked for more' [ "$(cat "$work/out")" -gt 2000 ]
+
 # As many as the table says, of browsers that stay connected; the next one waits until one ends.
 does 'how many one address may have' \
   'sed -n "s/.* ip saddr ct count over \([0-9]*\) } drop/\1/p" /var/lib/rooms-front/connections.nft'
@@ -223,6 +248,46 @@ does 'with it' 'systemctl start rooms-firewall'
 in_its_place 'another account' 1 9
 in_its_place 'without a place for who waits' 1 0
 in_its_place root 0 9 answers $'\n'
+# It drops what asks for a connection, so that who asks waits, and begins one of its own from there:
+# where both have begun, nobody answers the other.
+cat >"$machine/usr/local/lib/from_there.py" <<'END'
+import os, socket, sys, time
+os.setresuid(*[int(sys.argv[1])] * 3)
+def own():
+    at = socket.socket()
+    at.setsockopt(socket.SOL_SOCKET, socket.SO_REUSEADDR, 1)
+    at.setsockopt(socket.SOL_SOCKET, socket.SO_REUSEPORT, 1)
+    at.bind(("127.0.0.1", 8778))
+    return at
+drops = own()
+# IP_MINTTL: what has been on its way for less is dropped.
+drops.setsockopt(socket.IPPROTO_IP, 21, 255)
+drops.listen(9)
+print("drops", flush=True)
+ends = time.monotonic() + 6
+while time.monotonic() < ends:
+    for row in open("/proc/net/tcp"):
+        words = row.split()
+        if words[3] == "02" and words[2] == "0100007F:224A":
+            begun = own()
+            begun.settimeout(1)
+            try:
+                begun.connect(("127.0.0.1", int(words[1].split(":")[1], 16)))
+                print("from there", flush=True)
+                ends = 0
+            except OSError:
+                pass
+    time.sleep(0.02)
+END
+from_there() { # NAME USER TEXT
+  does "$1" "exec 3< <(exec python3 -I /usr/local/lib/from_there.py $2 2>&1)
+    [ \"\$(head -n 1 <&3)\" = drops ]
+    timeout 5 bash -c 'exec 4<>/dev/tcp/127.0.0.1/8778; sleep 1' 2>/dev/null; cat <&3"
+  printf '%s' "${@:3}" >wanted
+  same "$1: it is connected" "$work/out" wanted
+}
+from_there 'another account from there' 1
+from_there 'root from there' 0 'from there' $'\n'
 
 # Where another program has the port of TLS, nginx goes on with the site of before.
 cat >"$machine/usr/local/lib/port_443.py" <<'END'
