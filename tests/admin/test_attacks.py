@@ -142,8 +142,9 @@ class Kept(unittest.TestCase):
         """A tar of more than 64 MB doesn't come back, and those are on the disk of backups."""
         tables = f"{ROOT}/var/spool/cron/crontabs"
         os.makedirs(tables)
-        self.put(f"{tables}/mallory", "# rooms" + "x" * (1 << 20))
-        self.put(f"{tables}/root", "0 3 * * * rooms-admin check\n")
+        # On a terminal this looks like a line of a file of root's.
+        self.put(f"{tables}/mallory", "# \r/etc/cron.d/rooms:1 2 * * * root sh \x1b[8m # rooms\n")
+        self.put(f"{tables}/root", "0 3 * * * rooms-admin check\n# rooms\r\x1b[8m\n")
         for name, said in (("atq", "7\tSun a root\n8\tSun a mallory\n"),
                            ("at", "rooms-admin user remove $2\n")):
             self.put(f"{ROOT}/{name}", f"#!/bin/sh\ncat <<END\n{said}END\n")
@@ -153,6 +154,7 @@ class Kept(unittest.TestCase):
         self.assertLess(len(about), 10000)
         self.assertIn("at 7\tSun a root\nrooms-admin user remove 7\n", about)
         self.assertIn(f"{tables}/root:0 3 * * * rooms-admin check\n", about)
+        self.assertIn(f"{tables}/root:# rooms\\r\\x1b[8m\n", about)
         self.assertNotIn("mallory", about)
 
 

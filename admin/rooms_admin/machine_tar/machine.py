@@ -12,6 +12,7 @@ from collections.abc import Iterator
 from contextlib import suppress
 from dataclasses import dataclass, field
 
+from ..cli import report
 from ..host import at_jobs, commands, pem, safe
 from ..room import settings
 from ..passwords import passwords
@@ -126,7 +127,7 @@ def _about(version: str) -> str:
     text += _packages() + _kept(["ip", "-brief", "address"]) + _hosts()
     for line, runs in at_jobs.of_root():
         text += f"at {line}\n" + "\n".join(runs.splitlines()[-2:]) + "\n"
-    return text + _of_cron()
+    return report.plain(text + _of_cron())
 
 
 def _hosts() -> str:
@@ -138,10 +139,10 @@ def _hosts() -> str:
 
 
 def _of_cron() -> str:
-    """Lines that name rooms. Any account may have a table, of any size: what nobody would type is
-    left out, and not the tar."""
+    """Lines of root's that name rooms: they are to be typed again by root, and any account may have
+    a table with what only looks like one. What nobody would type is left out, and not the tar."""
     text = ""
-    for place in ("var/spool/cron/crontabs/*", "etc/crontab", "etc/cron.d/*", "etc/cron.daily/*",
+    for place in ("var/spool/cron/crontabs/root", "etc/crontab", "etc/cron.d/*", "etc/cron.daily/*",
                   "etc/cron.weekly/*"):
         for file in sorted(glob.glob(f"{glob.escape(ROOT)}/{place}")):
             text += commands.bounded(["grep", "-Hs", "rooms", file], _TABLE, commands.NOTHING,
