@@ -108,8 +108,8 @@ if has python3; then
     "$here/docs/twice.py" "$data/twice.txt" README.md CHANGELOG.md CONTRIBUTING.md \
     docs/*.md) >found 2>&1
   none 'what stands on two pages' found
-  "$top/tools/crates" --check >found
-  none 'the lists of crates' found
+  "$top/tools/crates" --check >found 2>&1
+  none 'a crate of which nothing says what it does' found
   "$top/tools/count-definitions" --check >found
   none 'the files of definitions that statement.md counts, and the contracts that it names' found
   # With a list that names machinery, and another that leaves out what a contract names.
@@ -148,7 +148,7 @@ if has python3; then
     '1 stated more than once, 1 copies' >wanted
   same 'lemmas that are spare' found wanted
 else
-  skip 'the lists of crates, and the lemmas' 'python3 is missing'
+  skip 'the crates, and the lemmas' 'python3 is missing'
 fi
 
 # The version stands in the program, and the list of changes has it.
