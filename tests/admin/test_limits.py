@@ -16,6 +16,7 @@ from unittest.mock import patch
 
 sys.path.insert(0, os.path.join(os.path.dirname(__file__), "..", "..", "admin"))
 
+from rooms_admin.cli import report  # noqa: E402
 from rooms_admin.host import root  # noqa: E402
 from rooms_admin.room import fullness, limit, needs, server, settings, size  # noqa: E402
 from rooms_admin.passwords import passwords  # noqa: E402
@@ -226,6 +227,20 @@ class Guests(Folder):
                 patch.object(watched, "Directory", lambda _: self.asked()):
             (level, said), = watched.see_guests()
         self.assertEqual((level, said[:20]), (2, "two passwords: eve o"))
+
+
+class ManyPasswords(Folder):
+    def test_users_of_a_file_that_is_full_can_go(self) -> None:
+        file, line = f"{self.home}/passwords", b"$2y$05$" + b"x" * 53
+        rows = b"".join(b"user%06d:%s\n" % (one, line) for one in range(116000))
+        for data in (rows + b"#" * ((8 << 20) - len(rows) - 1) + b"\n", rows[:7 << 20] * 2):
+            with open(file, "wb") as made:
+                made.write(data)
+            with self.assertRaisesRegex(report.Refused, "too many passwords: .* more than 8 MB"):
+                passwords.put_lines(file, {"dana": line})
+            self.assertEqual(passwords.put_lines(file, {"user000007": None}), {"user000007"})
+            self.assertNotIn("user000007", passwords.users(file))
+            passwords.put_lines(file, {"user000008": line[:-1]})
 
 
 class Connections(unittest.TestCase):

@@ -40,8 +40,9 @@ OLD = "/etc/nginx"
 NAME, FIRST = r"rooms(-[a-z0-9-]+)?\.htpasswd", r"rooms(-[a-z0-9-]+)?\.first"
 SITE = "/etc/nginx/sites-available/rooms"
 KEEPER = "rooms-keeper"
-# Bytes: some 100,000 users.
+# Bytes: some 100,000 users. One that is larger, as by hand, is read so far that users can go.
 _MOST = 8 << 20
+_READ = 2 * _MOST
 
 
 class Held(Refused):
@@ -160,7 +161,7 @@ def read(file: str) -> bytes | None:
     try:
         with safe.opened(safe.folder(os.path.dirname(file))) as within:
             with safe.opened(safe.file_below(within, os.path.basename(file))) as number:
-                data = safe.read_at_most(number, _MOST)
+                data = safe.read_at_most(number, _READ)
     except FileNotFoundError as fault:
         if os.path.lexists(file):
             # What isn't there is /proc.
@@ -170,8 +171,8 @@ def read(file: str) -> bytes | None:
         raise Stop(f"{file} can't be read: it is {fault}") from fault
     except OSError as fault:
         raise Stop(f"{file} can't be read: {fault.strerror}") from fault
-    if len(data) > _MOST:
-        raise Stop(f"{file} can't be read: it has more than {_MOST >> 20} MB")
+    if len(data) > _READ:
+        raise Stop(f"{file} can't be read: it has more than {_READ >> 20} MB")
     return data
 
 
@@ -239,8 +240,11 @@ def put_lines(file: str, lines: dict[str, bytes | None]) -> set[str]:
         return had
     if data is None:
         raise Refused(f"no file: {file} isn't there: rooms-admin setup or add makes it")
+    fresh = b"".join(row + b"\n" for row in left)
+    if len(data) < len(fresh) > _MOST:
+        raise Refused(f"too many passwords: {file} would have more than {_MOST >> 20} MB")
     try:
-        _put(file, b"".join(row + b"\n" for row in left))
+        _put(file, fresh)
     except OSError as fault:
         if fault.errno not in (errno.ENOSPC, errno.EDQUOT) or any(wanted.values()):
             raise
