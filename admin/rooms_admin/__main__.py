@@ -1,6 +1,7 @@
 """rooms-admin VERB: one command for all that an administrator does beside the program."""
 import argparse
 import os
+import shlex
 import signal
 import sys
 
@@ -15,6 +16,7 @@ def _run(verb: str, words: list[str]) -> int:
         raise report.Refused(f"bad arguments: there is no verb '{verb}'{meant}; "
                              "rooms-admin --help")
     report.prog = f"rooms-admin {verb}"
+    report.typed = shlex.join(["rooms-admin", verb, *words])
     module = manual.module_of(verb)
     try:
         given = reading.read(verb, module, words)

@@ -117,6 +117,7 @@ for wrong in \
   "another room's file;FILE=/var/lib/rooms/hr.rooms;file in use: ;hr.conf has /var/lib/rooms/hr.r" \
   "also by another way;FILE=/var/lib/rooms/./hr.rooms;file in use: ;office.conf has to be another" \
   "or of a unit of one's own;FILE=/var/lib/rooms/old.rooms;file in use: ;old.conf has to be anoth" \
+  "another room's unit;UNIT=rooms@hr;unit in use: ;has rooms@hr too, and UNIT in " \
   "the port of nginx;PORT=443;bad settings: PORT in ;isn't one of 8780 to 8998, which the firew" \
   "that of an Apache;PORT=8778;bad settings: PORT in ;isn't one of 8780 to 8998" \
   "another room's port;PORT=8790;port in use: ;hr.conf has 8790" \
@@ -144,7 +145,17 @@ sets --room bills PASSWORDS=directory
 told 'a room elsewhere' 0 'new file /etc/rooms/bills.on, with PASSWORDS=directory' \
   'it counts after: rooms-admin setup'
 sets --room bills KEEP=3
-told 'which has other settings' 2 'no setting: /etc/rooms/bills.on has no KEEP'
+told 'which has other settings' 2 'no setting: /etc/rooms/bills.on has no KEEP: the room bills' \
+  ' is on b.example; there: rooms-admin set '
+cp machine/etc/rooms/bills.on before
+sets --room bills ON=10.0.0.2
+told 'an address, which no certificate is for' 2 "ON in " "isn't a machine's name in a network"
+same 'nor written' machine/etc/rooms/bills.on before
+for wrong in 1.2.3 10.0.0.256 '[10.0.0.2]' :: '[::1' 'a.example ::g' ..; do
+  case $wrong in ::) text='new file /etc/rooms/site' wants=0 ;; *) text='HOSTS in ' wants=2 ;; esac
+  sets --site --dry-run "HOSTS=$wrong"
+  told "the site's name $wrong" "$wants" "$text"
+done
 sets --room none KEEP=3
 told 'no room' 2 "no settings: /etc/rooms/none.conf isn't there"
 sets --site 'HOSTS=docs.example rooms.example'
@@ -169,14 +180,24 @@ printf '%s\n' "FILE=$PWD/place/F" "BACKUPS=$PWD/store" "PROGRAM=$rooms" UNIT=roo
 ROOMS_RUN=$PWD/run "$repo/admin/rooms-admin" set --dry-run --room "$PWD/own.conf" \
   "BACKUPS=$PWD/none" >"$work/out" 2>"$work/err" </dev/null
 status=$?
-told 'what would be no folder' 0 "no folder: $PWD/none, of BACKUPS in "
-for where in none store; do
-  ROOMS_RUN=$PWD/run "$repo/admin/rooms-admin" set --room "$PWD/own.conf" "BACKUPS=$PWD/$where" \
+told 'what would be no folder' 2 "no folder: $PWD/none, of BACKUPS in "
+mkdir shared other
+chmod 777 shared
+cp own.conf before
+for wrong in "BACKUPS=$PWD/none;no folder: $PWD/none, of BACKUPS in " \
+  "BACKUPS=$PWD/shared;not root's: others can change $PWD/shared" \
+  "STANDBY=$PWD/none;no folder: $PWD/none, of STANDBY in " \
+  "FILE=$PWD/place;no file: $PWD/place, of FILE in " "FILE=$PWD/place/;no file: "; do
+  ROOMS_RUN=$PWD/run "$repo/admin/rooms-admin" set --room "$PWD/own.conf" "${wrong%%;*}" \
     >"$work/out" 2>"$work/err" </dev/null
   status=$?
-  told "backups in $where" 0 "with BACKUPS=$PWD/$where"
-  [ "$where" = store ] || told 'which is not there' 0 "no folder: $PWD/none, of BACKUPS in "
+  told "what can't work, ${wrong%%;*}" 2 "${wrong#*;}"
+  same "isn't written, ${wrong%%;*}" own.conf before
 done
+ROOMS_RUN=$PWD/run "$repo/admin/rooms-admin" set --room "$PWD/own.conf" "BACKUPS=$PWD/other" \
+  "STANDBY=$PWD/store" >"$work/out" 2>"$work/err" </dev/null
+status=$?
+told 'folders that are there' 0 "with BACKUPS=$PWD/other, STANDBY=$PWD/store"
 holds 'a folder that is there is no news' [ ! -s "$work/err" ]
 
 # Nor does a server start by a mistyped place, after the restart that the verb asks for.

@@ -8,10 +8,11 @@ if ! has python3; then
 fi
 printf '%s\n' '[mypy]' 'strict = True' "cache_dir = $PWD/mypy" '[mypy-ldap.*]' \
   'ignore_missing_imports = True' >mypy.ini
+typed=("$here"/admin/test_{pure,backups,told,attacks,texts,limits,deputy,elsewhere}.py)
 if has mypy; then
   MYPYPATH=$repo/admin:$repo/services mypy --config-file mypy.ini "$repo/admin/rooms_admin" \
     "$repo"/services/rooms_services/{apart.py,picture.py,scgi.py,port.py,wait.py,own_password} \
-    "$here"/admin/test_{pure,backups,told,attacks,texts,limits,deputy}.py >"$work/out" 2>&1
+    "${typed[@]}" >"$work/out" 2>&1
   status=$?
   holds "mypy --strict: $(tail -n 5 "$work/out")" [ "$status" = 0 ]
   for file in install rooms-table; do
@@ -27,7 +28,7 @@ if has flake8; then
   flake8 --isolated --max-line-length 100 "$repo/admin/rooms_admin" "$repo/deploy/install" \
     "$repo"/services/rooms_services/{apart.py,picture.py,scgi.py,port.py,wait.py,own_password} \
     "$repo"/deploy/rooms-{service,table} "$repo/admin/rooms-admin" \
-    "$here"/admin/test_{pure,backups,told,attacks,texts,limits,deputy}.py >"$work/out" 2>&1
+    "${typed[@]}" >"$work/out" 2>&1
   status=$?
   holds "flake8: $(head -n 5 "$work/out")" [ "$status" = 0 ]
   # (tools/kit.py may leave no byte code behind, so a line stands before the imports)
@@ -40,7 +41,7 @@ else
   skip 'style' 'flake8 is missing'
 fi
 for tested in test_pure test_backups test_told test_attacks test_texts test_limits test_keep \
-  test_deputy test_spreadsheet; do
+  test_deputy test_spreadsheet test_elsewhere test_importing; do
   (cd "$here/admin" && PYTHONPATH=$repo/admin python3 -B -m unittest "$tested") >"$work/out" 2>&1
   status=$?
   holds "the pure parts, $tested: $(tail -n 20 "$work/out")" [ "$status" = 0 ]

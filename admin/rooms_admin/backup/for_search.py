@@ -7,7 +7,7 @@ import os
 import pwd
 import re
 
-from ..host import safe
+from ..host import as_if, safe
 from ..host.changes import Changes
 from ..room import private_server, server
 from ..room.published import ROOT
@@ -82,7 +82,7 @@ def tidy(made: Changes, kept: set[str]) -> None:
     there: set[str] = set()
     for place in (PLACE, COPIES):
         with contextlib.suppress(OSError):
-            there |= set(os.listdir(made.root + place))
+            there |= set(as_if.listdir(made.root + place))
     for name in sorted(there - kept):
         remove(made, name)
 
@@ -90,7 +90,7 @@ def tidy(made: Changes, kept: set[str]) -> None:
 def remove(made: Changes, name: str) -> None:
     """Whoever has them open has them no longer."""
     found = [f"{place}/{name}" for place in (PLACE, COPIES)
-             if os.path.isdir(f"{made.root}{place}/{name}")]
+             if as_if.isdir(f"{made.root}{place}/{name}")]
     for folder in found:
         made.remove_folder(folder)
     if found:

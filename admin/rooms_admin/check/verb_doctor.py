@@ -11,7 +11,7 @@ import os
 import pwd
 
 from ..cli import alike, words
-from ..room import settings
+from ..room import settings, there
 from . import doctor
 from ..cli.report import Refused
 
@@ -51,22 +51,22 @@ def _named(word: str) -> str:
     if "/" in word or os.path.lexists(word):
         return os.path.abspath(word)
     if not os.path.lexists(conf):
-        there = map(settings.name_of, glob.glob(f"{glob.escape(settings.HOME)}/*.conf"))
+        there.need_here(conf, word, settings.value(there.place_of(conf), "ON"))
+        known = map(settings.name_of, glob.glob(f"{glob.escape(settings.HOME)}/*.conf"))
         raise Refused(f"no room: {word} is neither a file here nor a room, as {conf} isn't there"
-                      f"{alike.meant(word, there)}")
+                      f"{alike.meant(word, known)}")
     return _of_room(conf)
 
 
 def run(given: argparse.Namespace) -> int:
     if given.file and given.room:
         raise Refused("bad arguments: FILE and --room both say which room it is")
-    file = "" if given.file else _of_room(settings.file_of(given.room))
+    file = _named(given.file) if given.file else _of_room(settings.file_of(given.room))
     program = os.path.abspath(given.program or settings.PROGRAM)
     if not (os.path.isfile(program) and os.access(program, os.X_OK)):
         raise Refused(f"no program: {program} isn't there or can't be run")
     if given.user:
         _user(given.user, "/")
-    file = file or _named(given.file)
     user = _user(given.user, os.path.dirname(file))
     if os.getuid() not in (0, user.pw_uid):
         raise Refused(f"not root: only root and {user.pw_name} can look at it")

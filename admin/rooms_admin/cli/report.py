@@ -11,6 +11,8 @@ from typing import Any
 from .signs import is_seen
 
 prog = "rooms-admin"
+# What whoever asks for a verb has typed, for who has to type it elsewhere.
+typed = "rooms-admin"
 
 
 class Stop(Exception):

@@ -1,5 +1,5 @@
-"""What setup, add and remove do to a machine. Each change is printed, or only printed; and it is
-put back if nginx doesn't take it."""
+"""What setup, add and remove do to a machine. Each change is printed, or in a dry run only printed,
+and seen as if it was done; and it is put back if nginx doesn't take it."""
 import os
 import pwd
 import re
@@ -7,7 +7,7 @@ import shutil
 import stat
 from grp import getgrnam
 
-from . import commands, safe
+from . import as_if, commands, safe
 from ..cli.report import Refused, Stop
 
 # The user whose processes nginx's are, on Debian.
@@ -26,6 +26,7 @@ class Changes:
         self.root = root
         self.dry = dry
         self.count = 0
+        as_if.begin()
         self._before: list[tuple[str, bytes | str | None, int, int]] = []
 
     def does(self, text: str) -> bool:
@@ -37,11 +38,13 @@ class Changes:
     def folder(self, path: str, mode: int, owner: str = "root", group: str = "") -> None:
         """One that is there is left as it is."""
         place = self.root + path
-        if os.path.isdir(place):
-            if not self.root and pwd.getpwuid(os.stat(place).st_uid).pw_name != owner:
+        if as_if.isdir(place):
+            if not self.root and not as_if.is_changed(place) and (
+                    pwd.getpwuid(os.stat(place).st_uid).pw_name != owner):
                 print(f"kept {path}, which doesn't belong to the user {owner}")
             return
         if not self.does(f"folder {path}"):
+            as_if.is_folder(place)
             return
         os.makedirs(os.path.dirname(place), 0o755, exist_ok=True)
         if self.root:
@@ -87,14 +90,15 @@ class Changes:
         """A file with these bytes; whether anything has changed."""
         place = self.root + path
         try:
-            with open(place, "rb") as source:
-                same = source.read() == data
+            same = as_if.read(place) == data
             new = "new "
         except FileNotFoundError:
             same, new = False, ""
-        if same and stat.S_IMODE(os.stat(place).st_mode) & 0o777 & ~mode == 0:
+        if same and as_if.mode(place, mode) & 0o777 & ~mode == 0:
             return False
-        if self.does(f"{new}file {path}{what}"):
+        if not self.does(f"{new}file {path}{what}"):
+            as_if.is_file(place, data)
+        else:
             self.remember(path)
             os.makedirs(os.path.dirname(place), 0o755, exist_ok=True)
             number = getgrnam(group).gr_gid if group and not self.root else -1
@@ -103,9 +107,11 @@ class Changes:
 
     def link(self, path: str, target: str) -> bool:
         place = self.root + path
-        if os.path.islink(place) and os.readlink(place) == target:
+        if as_if.islink(place) and as_if.readlink(place) == target:
             return False
-        if self.does(f"link {path} to {target}"):
+        if not self.does(f"link {path} to {target}"):
+            as_if.is_link(place, target)
+        else:
             self.remember(path)
             os.makedirs(os.path.dirname(place), 0o755, exist_ok=True)
             fresh = f"{place}.rooms-new"
@@ -117,23 +123,24 @@ class Changes:
 
     def remove(self, path: str, why: str = " is removed") -> bool:
         place = self.root + path
-        if not os.path.lexists(place):
+        if not as_if.lexists(place):
             return False
-        if self.does(f"{path}{why}"):
+        if not self.does(f"{path}{why}"):
+            as_if.is_gone(place)
+        else:
             self.remember(path)
             os.unlink(place)
         return True
 
     def remove_folder(self, path: str) -> None:
         """With all that is in it, whatever whoever had it made there. It doesn't come back."""
-        if os.path.isdir(self.root + path) and self.does(f"{path} is removed"):
-            safe.remove_folder(self.root + path)
-
-    def rename(self, path: str, to: str, why: str) -> None:
-        if self.does(f"{path} is now {to}{why}"):
-            self.remember(path)
-            self.remember(to)
-            os.rename(self.root + path, self.root + to)
+        place = self.root + path
+        if not as_if.isdir(place):
+            return
+        if not self.does(f"{path} is removed"):
+            as_if.is_gone(place)
+        else:
+            safe.remove_folder(place)
 
     def systemctl(self, *words: str, check: bool = True) -> bool:
         """Of a machine that systemd runs. Without `check` it returns whether that went well."""

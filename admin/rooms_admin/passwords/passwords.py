@@ -14,7 +14,7 @@ from collections.abc import Iterator
 from contextlib import AbstractContextManager, contextmanager
 from dataclasses import dataclass
 
-from ..host import commands, locks, safe
+from ..host import as_if, commands, locks, safe
 from ..room import published
 from . import password_rules, remembered
 from ..cli.report import Refused, Stop, say
@@ -111,9 +111,9 @@ def file_of(root: str, name: str) -> str:
     """Where there are both, a move was cut off, or one was brought back: the one that nginx reads
     counts."""
     kept, old = kept_of(name), old_of(name)
-    if not os.path.exists(root + kept):
+    if not as_if.exists(root + kept):
         return old
-    return kept if not os.path.lexists(root + old) or _is_served(root, name) else old
+    return kept if not as_if.lexists(root + old) or _is_served(root, name) else old
 
 
 def _is_served(root: str, name: str) -> bool:

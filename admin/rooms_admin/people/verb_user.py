@@ -22,6 +22,7 @@ list of objects with the names 'user', 'password' ('yes', 'first', 'no', or 'els
 directory or sessions have them) and 'groups'."""
 import argparse
 import os
+import shlex
 
 from ..cli import report, words
 from ..host import unheld
@@ -29,7 +30,7 @@ from ..room import names, published, settings
 from ..passwords import passwords
 from . import leaving, users
 from ..directory import guests
-from ..cli.report import Refused
+from ..cli.report import Refused, say
 from ..room.settings import Room
 
 
@@ -126,14 +127,25 @@ def _need_file(place: str, room: Room | None, asked: users.Words) -> None:
                       "passwords a directory has")
 
 
+def _there(asked: users.Words) -> str:
+    """What has its groups changed on its own machine, which has no passwords."""
+    if asked.what == "add" and not asked.file:
+        return shlex.join(["rooms-admin", "user", "change", asked.name, "--add",
+                           ",".join(asked.joins), "--room", asked.conf])
+    return report.typed
+
+
 def _room(asked: users.Words) -> tuple[str, Room | None]:
     """The room's name, and the room. Of one on another machine this one has the passwords alone."""
     on = f"{settings.HOME}/{asked.conf}.on"
     if names.is_room(asked.conf) and os.path.exists(on) and not os.path.exists(
             settings.file_of(asked.conf)):
         if asked.joins or asked.leaves or asked.heir:
-            raise Refused(f"bad arguments: the room {asked.conf} is on {settings.place(on).on}, "
-                          "where its groups and owners are changed")
+            raise Refused(f"elsewhere: the room {asked.conf} is on {settings.place(on).on}, where "
+                          f"its groups and owners are changed; there: {_there(asked)}")
+        if asked.what in ("list", "remove") and not asked.is_password:
+            say(f"passwords alone: the room {asked.conf} is on {settings.place(on).on}, and all "
+                f"else of it; there: {_there(asked)}")
         return asked.conf, None
     room = settings.room(asked.conf)
     if asked.heir == asked.name and asked.heir:
@@ -147,8 +159,8 @@ def _look_at_add(place: str, room: Room | None, asked: users.Words, wanted: dict
         raise Refused(f"no own passwords: nobody could change a first one of {place}: "
                       "OWN_PASSWORDS=yes in its settings, and then rooms-admin setup")
     if room is None and any(wanted.values()):
-        raise Refused(f"bad arguments: the room {place} is on another machine, where its groups "
-                      "are changed")
+        raise Refused(f"elsewhere: the room {place} is on another machine, where its groups are "
+                      f"changed; here by a file of names alone; there: {_there(asked)}")
     if not wanted:
         _need_file(place, room, asked)
 

@@ -1,5 +1,6 @@
 """Which forms values of settings have."""
 import datetime
+import ipaddress
 import re
 
 from .names import is_host
@@ -40,7 +41,21 @@ def is_folder_of_room(text: str) -> bool:
     return text in ("", "/") or text.startswith("/") and not text.endswith("/")
 
 
+def is_machine(text: str) -> bool:
+    """A name of one in a network, and no address: no certificate is for that."""
+    return is_host(text) and not text.replace(".", "").isdigit()
+
+
+def _is_address(text: str) -> bool:
+    """Of a network; in a browser one with colons stands between brackets."""
+    inner = text[1:-1] if text.startswith("[") and text.endswith("]") else text
+    try:
+        return ipaddress.ip_address(inner).version == 6 or inner == text
+    except ValueError:
+        return False
+
+
 def are_hosts(text: str) -> bool:
+    """Digits with dots alone are an address, or nothing that a browser finds."""
     hosts = text.split()
-    return bool(hosts) and all(is_host(one) or matches(r"\[?[0-9a-f.:]+\]?", one)
-                               for one in hosts)
+    return bool(hosts) and all(is_machine(one) or _is_address(one) for one in hosts)

@@ -18,7 +18,7 @@ from typing import Any, BinaryIO
 
 from ..cli import report, words
 from ..host.at_socket import AtServer, AtSocket
-from . import names, settings
+from . import names, settings, there
 from ..cli.report import Refused, Stop, say
 from .in_parts import LARGEST
 from .settings import Room, is_this_machine
@@ -257,6 +257,7 @@ def is_here(word: str) -> bool:
 def client(word: str, caller: Caller, next_step: str, ends_by_500: bool) -> Client:
     """Of a room by its address; or, on its own machine, by its name or its settings."""
     if not is_here(word):
+        _look_elsewhere(word)
         return Client(word or "office", caller, next_step, ends_by_500)
     if caller.user or caller.config:
         raise Refused(f"bad arguments: nobody asks for a password at the room {word or 'office'} "
@@ -264,6 +265,16 @@ def client(word: str, caller: Caller, next_step: str, ends_by_500: bool) -> Clie
     room = settings.room(word)
     return Client(room.address, caller, next_step, ends_by_500, room.listens, room.door,
                   most_of(word))
+
+
+def _look_elsewhere(word: str) -> None:
+    """A room that this machine only shows is asked by the address of the site."""
+    machine = "" if "/" in word else settings.value(there.place_of(settings.file_of(word)), "ON")
+    if machine:
+        front = settings.front(os.path.join(settings.HOME, "site"))
+        scheme = "https" if front.certificate else "http"
+        raise Refused(f"elsewhere: the room {word} is on {machine}; here by its address, --room "
+                      f"{scheme}://{front.hosts[0]}/{word}; there: {report.typed}")
 
 
 def most_of(word: str) -> int:

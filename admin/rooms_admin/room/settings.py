@@ -2,12 +2,11 @@
 import functools
 import os
 import stat
-from collections.abc import Callable, Iterable, Iterator
-from contextlib import contextmanager
+from collections.abc import Callable, Iterable
 from dataclasses import dataclass, field, fields
 from typing import Any
 
-from ..host import locks
+from ..host import as_if, locks
 from . import environment, forms, keep as keeping, there
 from .names import is_host, is_user
 from ..cli.report import Refused
@@ -20,26 +19,12 @@ PROGRAM = os.path.join(_HERE.removesuffix("/share/rooms/rooms_admin")
                        "bin/rooms")
 
 
-# What files would say.
-_supposed: dict[str, str] = {}
-
-
-@contextmanager
-def supposed(path: str, text: str) -> Iterator[None]:
-    """Meanwhile each reader has this text of a file, which isn't written."""
-    _supposed[path] = text
-    try:
-        yield
-    finally:
-        del _supposed[path]
-
-
 def _text(path: str) -> str:
     """Programs that settings name run as whoever reads them. So they are root's, or the caller's
     own, and nobody else can write to them. What is looked at is what is read."""
-    if path in _supposed:
-        return _supposed[path]
     try:
+        if as_if.is_changed(path):
+            return as_if.read(path).decode(errors="surrogateescape")
         with open(os.open(path, os.O_RDONLY | os.O_NONBLOCK | os.O_CLOEXEC), encoding="utf-8",
                   errors="surrogateescape", newline="\n") as source:
             seen = os.fstat(source.fileno())
@@ -52,6 +37,8 @@ def _text(path: str) -> str:
                 raise Refused(f"not safe: others can write to {path}: chmod go-w {path}")
             return source.read()
     except OSError as fault:
+        if path.endswith(".conf"):
+            there.need_here(path, name_of(path), value(there.place_of(path), "ON"))
         raise Refused(f"no settings: {path} can't be read: {fault.strerror}") from fault
 
 
@@ -280,7 +267,7 @@ class Place(Reached):
     """What nginx needs of a room, here or on the machine ON. With `keeps` its file of passwords is
     the keeper's."""
     name: str
-    on: str = setting("ON", is_host, "a host's name")
+    on: str = setting("ON", forms.is_machine, "a machine's name in a network")
 
     def __post_init__(self) -> None:
         self.keeps = self.own_passwords and not self.behind

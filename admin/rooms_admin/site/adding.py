@@ -7,9 +7,9 @@ import time
 from collections.abc import Iterator
 from contextlib import contextmanager
 
-from ..host import changes, locks
+from ..host import as_if, changes, locks
 from ..room import forms, names, published, settings
-from . import apply, password_files, ports, setting_up, template
+from . import apply, password_files, ports, served, setting_up, template
 from ..cli import report
 from ..cli.report import Refused, Stop
 from ..host.changes import Changes
@@ -29,16 +29,16 @@ def _look_at_name(name: str) -> None:
 
 
 def _look_at_machine(made: Changes) -> None:
-    if not os.path.isdir(made.root + "/etc/rooms"):
+    if not as_if.isdir(made.root + "/etc/rooms"):
         raise Refused(f"not installed: {made.root}/etc/rooms isn't there")
-    if not os.path.exists(made.root + template.SETTINGS):
+    if not as_if.exists(made.root + template.SETTINGS):
         raise Refused("no nginx: apt-get install nginx apache2-utils, and then run rooms-admin "
                       "setup")
 
 
 def _look_at_name_here(made: Changes, name: str) -> None:
     for path in (f"/etc/rooms/{name}.conf", f"/etc/rooms/{name}.on"):
-        if os.path.lexists(made.root + path):
+        if as_if.lexists(made.root + path):
             raise Refused(f"room exists: {path} is there; rooms-admin remove {name} takes it away")
 
 
@@ -85,11 +85,11 @@ class NewRoom:
 
     def _look_at_file(self) -> None:
         root = self.made.root
-        if os.path.lexists(root + self.file):
+        if as_if.lexists(root + self.file):
             if self.owner:
                 raise Refused(f"room exists: {self.file} is there; without OWNER and GROUP it is "
                               "served as it is")
-        elif os.path.lexists(root + self.file + "-wal"):
+        elif as_if.lexists(root + self.file + "-wal"):
             raise Refused(f"half a room: {self.file}-wal is there without {self.file}")
         elif not self.owner and not root:
             raise Refused(f"bad arguments: {self.file} isn't there, so OWNER and GROUP are needed")
@@ -103,7 +103,7 @@ class NewRoom:
         above = settings.value(self.made.root + office, "BACKUPS") or "/var/backups/rooms"
         if not above.startswith("/"):
             raise Refused(f"bad settings: BACKUPS in {office} isn't an absolute path: '{above}'")
-        if not os.path.isdir(self.made.root + above):
+        if not as_if.isdir(self.made.root + above):
             raise Refused(f"no folder: {above}, of BACKUPS in {office}, isn't there")
         return f"{above.rstrip('/')}/{self.name}"
 
@@ -126,15 +126,11 @@ class NewRoom:
                 raise Refused(f"host in use: /etc/rooms/{one.name}.conf has {self.host}")
         if self.host in found.front.hosts:
             raise Refused(f"host in use: {template.SETTINGS} has {self.host}")
-        if certificate := found.front.certificate:
-            _, said = changes.run("openssl", "x509", "-in", certificate, "-noout", "-checkhost",
-                                  self.host, check=False)
-            if "does match" not in said:
-                raise Refused(f"no certificate: {certificate} isn't for {self.host}")
+        served.need_for(found.front, self.host, self.conf)
 
     def _look_at_certificate(self) -> None:
         for name in ("machine.pem", "machine.key", "authority.pem"):
-            if not os.path.exists(f"{self.made.root}{template.MACHINES}/{name}"):
+            if not as_if.exists(f"{self.made.root}{template.MACHINES}/{name}"):
                 raise Refused(f"no certificate: {template.MACHINES}/{name} isn't there; "
                               "docs/machines.md says how it is made")
 
@@ -151,14 +147,11 @@ class NewRoom:
             made.folder(self.backups, 0o700)
             if not self.behind:
                 password_files.put(made, self.name, True)
-            if made.dry:
-                made.does(f"file {template.FILE}")
-            elif made.root:
-                apply.show(made)
+            if not made.root:
+                self._make_room()
+            apply.show(made)
+            if made.root:
                 return 0
-            self._make_room()
-            if not made.dry:
-                apply.show(made)
         except BaseException:
             self._take_back(fresh)
             raise
@@ -174,7 +167,7 @@ class NewRoom:
         if self.made.dry:
             return
         for path in [self.conf, *fresh]:
-            if os.path.lexists(self.made.root + path):
+            if as_if.lexists(self.made.root + path):
                 os.unlink(self.made.root + path)
         try:
             os.rmdir(self.made.root + self.backups)
@@ -234,7 +227,7 @@ def _place(name: str, host: str) -> str:
 def _ports(root: str) -> dict[str, str]:
     """Which settings have a port."""
     found = {}
-    for one in sorted(os.listdir(root + "/etc/rooms")):
+    for one in sorted(as_if.listdir(root + "/etc/rooms")):
         if one.endswith(".conf"):
             path = f"{root}/etc/rooms/{one}"
             found[settings.port(path)] = path
@@ -244,12 +237,12 @@ def _ports(root: str) -> dict[str, str]:
 def elsewhere(made: Changes, name: str, on: str, port: str, title: str) -> int:
     """A room on another machine: its place, its passwords, and a line for the start page."""
     _look_at_name_here(made, name)
-    if not names.is_host(on) or on.replace(".", "").isdigit():
+    if not forms.is_machine(on):
         raise Refused(f"bad host: '{on}' isn't the name of a machine in a network")
     if not forms.is_port(port):
         raise Refused(f"bad port: '{port}'")
     for one in ("front.pem", "front.key", "authority.pem"):
-        if not os.path.exists(f"{made.root}{template.MACHINES}/{one}"):
+        if not as_if.exists(f"{made.root}{template.MACHINES}/{one}"):
             raise Refused(f"no certificate: {template.MACHINES}/{one} isn't there; "
                           "docs/machines.md says how it is made")
     _look_at_title(title)
@@ -260,16 +253,13 @@ def elsewhere(made: Changes, name: str, on: str, port: str, title: str) -> int:
     try:
         made.file(path, text.encode(errors="surrogateescape"))
         password_files.put(made, name, True)
-        if made.dry:
-            made.does(f"file {template.FILE}")
-            return 0
         apply.show(made)
     except BaseException:
         for one in [path, *fresh]:
-            if not made.dry and os.path.lexists(made.root + one):
+            if not made.dry and as_if.lexists(made.root + one):
                 os.unlink(made.root + one)
         raise
-    if not made.root:
+    if not made.root and not made.dry:
         print(f"What is left, on {on}: rooms-admin add --behind {name} OWNER GROUP")
         print(f"And here, for each user of {name}: rooms-admin user add USER --room {name}")
         print(f"Users then open {_place(name, '')}")

@@ -1,8 +1,8 @@
 """The Apache that checks passwords against the directory, for nginx: what it is told."""
-import os
 import re
 import secrets
 
+from ..host import as_if
 from ..room import settings
 from . import template
 from ..host.changes import Changes
@@ -55,4 +55,4 @@ def put(changes: Changes, of: settings.Directory) -> bool:
 
 
 def is_there(root: str) -> bool:
-    return os.path.exists(root + FILE)
+    return as_if.exists(root + FILE)

@@ -2,7 +2,7 @@
 import os
 from contextlib import suppress
 
-from ..host import changes, locks
+from ..host import as_if, changes, locks
 from ..backup import for_search
 from ..directory import guests
 from ..room import names, settings
@@ -35,7 +35,7 @@ def refuse_edited(root: str) -> None:
 
 def look_at_link(root: str) -> None:
     link = root + _LINK
-    if os.path.lexists(link) and not (os.path.islink(link) and os.readlink(link) in _OURS):
+    if as_if.lexists(link) and not (as_if.islink(link) and as_if.readlink(link) in _OURS):
         raise Refused(f"another site: {_LINK} isn't a link to {_TARGET}")
 
 
@@ -53,7 +53,7 @@ def _is_unread(made: Changes) -> bool:
     one may."""
     if made.root or made.dry:
         return False
-    is_left = os.path.exists(_UNREAD)
+    is_left = as_if.exists(_UNREAD)
     with suppress(OSError):
         os.close(os.open(_UNREAD, os.O_WRONLY | os.O_CREAT | os.O_CLOEXEC, 0o600))
     return is_left
@@ -127,7 +127,7 @@ def _see_refused(made: Changes, is_unread: bool) -> None:
 def _see_tls(made: Changes, wanted: template.Site) -> None:
     if made.root or made.dry or not wanted.front.certificate:
         return
-    if os.path.isdir("/run/systemd/system") and (said := served.see_reload(
+    if as_if.isdir("/run/systemd/system") and (said := served.see_reload(
             wanted.front.certificate)):
         raise Stop(said)
 
@@ -135,7 +135,7 @@ def _see_tls(made: Changes, wanted: template.Site) -> None:
 def _start_doors(made: Changes, wanted: template.Site) -> None:
     """Before nginx asks there. Otherwise a door comes and goes with its room's server, and one from
     a version before may have none."""
-    if made.root or not os.path.isdir("/run/systemd/system"):
+    if made.root or not as_if.isdir("/run/systemd/system"):
         return
     lacking = [f"rooms-door@{one.name}" for one in wanted.rooms if not one.on
                and ports.runs(f"rooms@{one.name}") and not ports.runs(f"rooms-door@{one.name}")]
@@ -161,7 +161,7 @@ def serve(made: Changes, wanted: template.Site) -> None:
                             ("scan", scans),
                             ("picture", here), ("would", here)):
         unit = f"rooms-{name}.socket"
-        is_on = os.path.islink(f"/etc/systemd/system/sockets.target.wants/{unit}")
+        is_on = as_if.islink(f"/etc/systemd/system/sockets.target.wants/{unit}")
         if is_wanted != is_on:
             made.systemctl("disable" if is_on else "enable", "--now", unit)
 
@@ -169,7 +169,7 @@ def serve(made: Changes, wanted: template.Site) -> None:
 def enable(made: Changes) -> bool:
     """A site that somebody put there stays."""
     link = made.root + _LINK
-    if os.path.lexists(link) and not (os.path.islink(link) and os.readlink(link) in _OURS):
+    if as_if.lexists(link) and not (as_if.islink(link) and as_if.readlink(link) in _OURS):
         print(f"kept {_LINK}, which isn't a link to {_TARGET}")
         return False
     return made.link(_LINK, _TARGET)
@@ -190,7 +190,7 @@ def _look_at_checks(root: str, room: settings.Place) -> None:
     if room.passwords == "directory" and not apache.is_there(root):
         raise Refused(f"no directory: {said}: docs/directory.md, and then rooms-admin setup "
                       f"--directory {guests.FILE}")
-    if room.passwords == "session" and not os.path.exists(root + _SESSIONS):
+    if room.passwords == "session" and not as_if.exists(root + _SESSIONS):
         raise Refused(f"no sessions: {said}: {_SESSIONS} and its unit first, as docs/directory.md "
                       "has them")
 
@@ -201,7 +201,7 @@ def _look_at_files(root: str, wanted: template.Site) -> None:
     if wanted.behind:
         needed += ["machine.pem", "machine.key", "authority.pem"]
     for name in needed:
-        if not os.path.exists(f"{root}{template.MACHINES}/{name}"):
+        if not as_if.exists(f"{root}{template.MACHINES}/{name}"):
             raise Refused(f"no certificate: {template.MACHINES}/{name} isn't there; "
                           "docs/machines.md says how it is made")
 
@@ -209,7 +209,7 @@ def _look_at_files(root: str, wanted: template.Site) -> None:
 def disable_default(made: Changes, packaged: bool) -> None:
     """Debian's default site answers on port 80 for each name that no other site has, so that the
     room wouldn't be found at the machine's address."""
-    if not os.path.lexists(made.root + _DEFAULT):
+    if not as_if.lexists(made.root + _DEFAULT):
         return
     if packaged:
         made.remove(_DEFAULT, " is removed, which showed 'Welcome to nginx!'")
@@ -221,7 +221,7 @@ def disable_default(made: Changes, packaged: bool) -> None:
 def _has_others(root: str) -> bool:
     """Sites beside ours: one of them answers for each name that none has, such as an address."""
     try:
-        return bool(set(os.listdir(root + os.path.dirname(_LINK))) - {os.path.basename(_LINK)})
+        return bool(set(as_if.listdir(root + os.path.dirname(_LINK))) - {os.path.basename(_LINK)})
     except FileNotFoundError:
         return False
 
@@ -246,7 +246,7 @@ def address(root: str) -> str:
 
 
 def tell(made: Changes) -> None:
-    if made.root or made.dry or not os.path.exists(template.FILE):
+    if made.root or made.dry or not as_if.exists(template.FILE):
         return
     where = address("")
     print(f"Users then open {where}")

@@ -3,6 +3,7 @@ bounds."""
 import os
 import re
 
+from ..host import as_if
 from ..host.changes import Changes
 from ..room import settings
 from . import ports, template
@@ -49,14 +50,14 @@ def most(root: str, front: settings.Front) -> int:
 
 def _rests(made: Changes) -> bool:
     """As after a removal that was cut off: what is enabled may have been stopped."""
-    return not made.root and os.path.isdir("/run/systemd/system") and not ports.runs(UNIT)
+    return not made.root and as_if.isdir("/run/systemd/system") and not ports.runs(UNIT)
 
 
 def put(made: Changes, wanted: template.Site) -> None:
     """Brings the table into line with the settings. Where the kernel doesn't take it, the rooms are
     served all the same."""
     number = most(made.root, wanted.front)
-    is_on = os.path.islink(f"{made.root}/etc/systemd/system/multi-user.target.wants/{UNIT}")
+    is_on = as_if.islink(f"{made.root}/etc/systemd/system/multi-user.target.wants/{UNIT}")
     if not number:
         if is_on:
             made.systemctl("disable", "--now", UNIT)

@@ -8,7 +8,7 @@ from contextlib import ExitStack
 from dataclasses import dataclass
 from grp import getgrnam
 
-from ..host import at_jobs, changes, safe
+from ..host import as_if, at_jobs, changes, safe
 from ..passwords import passwords
 from ..cli.report import Stop
 from ..host.changes import Changes
@@ -18,7 +18,7 @@ from .template import Site
 
 def folder(made: Changes) -> None:
     """A version before gave it to who changes own passwords."""
-    if not made.root and os.path.isdir(passwords.KEPT) and os.stat(passwords.KEPT).st_uid != 0:
+    if not made.root and as_if.isdir(passwords.KEPT) and os.stat(passwords.KEPT).st_uid != 0:
         if made.does(f"{passwords.KEPT} belongs to root"):
             with safe.opened(safe.folder(passwords.KEPT)) as number:
                 os.fchown(number, 0, getgrnam(changes.NGINX).gr_gid)
@@ -39,13 +39,13 @@ def all_of(name: str) -> list[str]:
 
 def missing(root: str, name: str) -> list[str]:
     """What a run makes, if it makes any."""
-    return [one for one in all_of(name) if not os.path.lexists(root + one)]
+    return [one for one in all_of(name) if not as_if.lexists(root + one)]
 
 
 def put(made: Changes, name: str, keeps: bool) -> None:
     """nginx's user reads them, and nobody else does but who may change them."""
     path = of(made.root, name)
-    if os.path.lexists(made.root + path):
+    if as_if.lexists(made.root + path):
         users = len(passwords.users(made.root + path))
         if users and name != "office":
             print(f"kept {path}: its {users} users may sign in")
@@ -55,10 +55,11 @@ def put(made: Changes, name: str, keeps: bool) -> None:
 
 
 def _write(made: Changes, path: str, data: bytes, what: str) -> None:
-    if not made.does(what):
-        return
     place = made.root + path
-    if not os.path.lexists(place):
+    if not made.does(what):
+        as_if.is_file(place, data)
+        return
+    if not as_if.lexists(place):
         # What is there isn't put back: somebody may have been shut out of it meanwhile.
         made.remember(path)
     os.makedirs(os.path.dirname(place), 0o755, exist_ok=True)
@@ -73,7 +74,7 @@ def _write(made: Changes, path: str, data: bytes, what: str) -> None:
 def leave(root: str, wanted: Site) -> None:
     """nginx's site can't follow, so each file stays where it is."""
     for one in wanted.rooms:
-        one.keeps = one.keeps and os.path.exists(root + passwords.kept_of(one.name))
+        one.keeps = one.keeps and as_if.exists(root + passwords.kept_of(one.name))
 
 
 @dataclass
@@ -89,15 +90,15 @@ def move(made: Changes, wanted: Site) -> list[Moved]:
     gone: list[Moved] = []
     for one in wanted.shown:
         kept, old = passwords.kept_of(one.name), passwords.old_of(one.name)
-        if one.keeps and os.path.islink(made.root + old):
+        if one.keeps and as_if.islink(made.root + old):
             print(f"kept {old}, which is a link: users of {one.name} can't change their passwords")
             one.keeps = False
         source, target = (old, kept) if one.keeps else (kept, old)
         with ExitStack() as owned:
-            if os.path.exists(made.root + source):
+            if as_if.exists(made.root + source):
                 _hold(made, one.name, owned)
                 gone += _copy(made, one, source, target)
-        if one.own or one.keeps and os.path.lexists(made.root + kept):
+        if one.own or one.keeps and as_if.lexists(made.root + kept):
             _keep(made, kept, old in [it.source for it in gone])
         elif passwords.read(made.root + passwords.first_of(kept)):
             print(f"kept {passwords.first_of(kept)}: whoever has a first password there can't sign "
@@ -110,7 +111,7 @@ def _hold(made: Changes, name: str, owned: ExitStack) -> None:
         return
     owned.enter_context(passwords.moving(name))
     kept = passwords.kept_of(name)
-    if os.path.exists(os.path.dirname(kept)):
+    if as_if.exists(os.path.dirname(kept)):
         owned.enter_context(passwords.held(kept, 10))
 
 
@@ -120,7 +121,7 @@ def _copy(made: Changes, one: Place, source: str, target: str) -> list[Moved]:
     if data is None:
         return []
     found = Moved(source, target, data)
-    if os.path.exists(made.root + target):
+    if as_if.exists(made.root + target):
         if (of(made.root, one.name) == target
                 and passwords.read(made.root + target) != data):
             print(f"kept {source}, which counts no more: {target} does")
@@ -137,7 +138,7 @@ def _keep(made: Changes, kept: str, is_copied: bool) -> None:
     a file isn't there."""
     first = passwords.first_of(kept)
     for path in (first,) if is_copied else (kept, first):
-        if not os.path.lexists(made.root + path):
+        if not as_if.lexists(made.root + path):
             _write(made, path, b"", f"file {path}, without a password")
     if made.root or made.dry:
         return

@@ -6,7 +6,7 @@ import os
 import socket
 
 from ..cli.report import Refused
-from ..host import changes
+from ..host import as_if, changes
 from ..host.changes import Changes
 from ..room import forms, names, settings
 from . import template
@@ -23,7 +23,7 @@ def _line(name: str) -> str:
 
 
 def _is_on(root: str, name: str) -> bool:
-    return os.path.islink(f"{root}{_UNITS}/rooms@{name}.service.wants/{_unit(name)}")
+    return as_if.islink(f"{root}{_UNITS}/rooms@{name}.service.wants/{_unit(name)}")
 
 
 def runs(unit: str) -> bool:
@@ -56,7 +56,7 @@ def _wanted(root: str) -> dict[str, str]:
     """The ports of rooms, by their names."""
     folder = f"{root}/etc/rooms"
     found = {}
-    for file in sorted(os.listdir(folder)) if os.path.isdir(folder) else []:
+    for file in sorted(as_if.listdir(folder)) if as_if.isdir(folder) else []:
         name, kind = os.path.splitext(file)
         path = f"{folder}/{file}"
         if kind != ".conf" or not names.is_room(name) or settings.value(path, "UNIT") not in (
@@ -93,12 +93,12 @@ def put(made: Changes) -> bool:
 
 
 def _serves(made: Changes, name: str) -> bool:
-    return not made.root and os.path.isdir("/run/systemd/system") and runs(f"rooms@{name}")
+    return not made.root and as_if.isdir("/run/systemd/system") and runs(f"rooms@{name}")
 
 
 def _listen(made: Changes, name: str) -> bool:
     is_on = _serves(made, name)
-    if is_on and not os.path.exists(f"/run/rooms/{name}/socket"):
+    if is_on and not as_if.exists(f"/run/rooms/{name}/socket"):
         made.systemctl("try-restart", f"rooms@{name}", check=False)
     if not _is_on(made.root, name):
         made.systemctl("enable", _unit(name))

@@ -1,8 +1,7 @@
 """What a room leaves on a machine, and what stays."""
-import os
 from contextlib import ExitStack
 
-from ..host import locks
+from ..host import as_if, locks
 from ..room import published, settings
 from ..backup import dates, for_search
 from . import password_files
@@ -12,7 +11,7 @@ from ..host.changes import Changes
 
 def remove_room(made: Changes, name: str) -> None:
     conf = f"/etc/rooms/{name}.conf"
-    if not os.path.lexists(made.root + conf):
+    if not as_if.lexists(made.root + conf):
         raise Refused(f"no room: {conf} isn't there")
     unit = settings.value(made.root + conf, "UNIT") or f"rooms@{name}"
     if unit != f"rooms@{name}":
@@ -41,5 +40,5 @@ def remove_room(made: Changes, name: str) -> None:
 
 def say_kept(made: Changes, paths: list[str]) -> None:
     for path in paths:
-        if path and os.path.lexists(made.root + path):
+        if path and as_if.lexists(made.root + path):
             print(f"kept {path}")

@@ -86,6 +86,12 @@ def _is_for(file: str, host: str) -> bool:
                                     "-checkhost", host])
 
 
+def need_for(front: settings.Front, host: str, path: str) -> None:
+    """A room at a name of its own, where the site has TLS."""
+    if host and front.certificate and not _is_for(front.certificate, host):
+        raise Refused(f"no certificate: {front.certificate} isn't for {host}, of HOST in {path}")
+
+
 def names_without(file: str, site: template.Site) -> list[str]:
     """Those of the site and of its rooms that a certificate isn't for."""
     wanted = [*site.front.hosts, *(one.host for one in site.rooms if one.host)]

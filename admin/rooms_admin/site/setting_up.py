@@ -7,7 +7,7 @@ import shutil
 import tempfile
 from pwd import getpwnam, struct_passwd
 
-from ..host import changes, commands
+from ..host import as_if, changes, commands
 from ..room import forms, program as runs, settings
 from ..passwords import passwords
 from ..directory import directory, guests
@@ -27,10 +27,10 @@ def set_up(made: Changes, pair: tuple[str, str] | None, chosen: str,
     made.folder("/var/lib/rooms", 0o700, "rooms")
     made.folder("/var/backups/rooms", 0o700, "root")
     made.folder("/etc/rooms", 0o755)
-    if not os.path.exists(made.root + _OFFICE):
+    if not as_if.exists(made.root + _OFFICE):
         text = room_text(made.root, "office", "", "office", "/var/backups/rooms")
         made.file(_OFFICE, text.encode())
-    if not made.root and not os.path.isdir("/etc/nginx"):
+    if not made.root and not as_if.isdir("/etc/nginx"):
         print("no nginx here: apt-get install nginx apache2-utils, and then run this again")
         return _end(made, True)
     apply.folders(made)
@@ -42,11 +42,6 @@ def set_up(made: Changes, pair: tuple[str, str] | None, chosen: str,
         _switch(made, chosen, where)
     _keep_directory(made, not chosen)
     password_files.put(made, "office", settings.place(made.root + _OFFICE).keeps)
-    if made.dry and (chosen and not apache.is_there(made.root)
-                     or not os.path.exists(made.root + template.SETTINGS)):
-        # Nothing can be rendered from settings that aren't there.
-        made.does(f"file {template.FILE}")
-        return _end(made, True)
     apply.disable_default(made, default_is_packaged(made.root))
     good = apply.show(made)
     if pair and (lacks := served.names_without(pair[0], template.gather(made.root))):
@@ -60,7 +55,7 @@ def _end(made: Changes, good: bool) -> int:
     if not made.count:
         print("nothing to change")
     _tell_disabled(made)
-    if not made.dry and not made.root and not os.path.exists("/var/lib/rooms/office.rooms"):
+    if not made.dry and not made.root and not as_if.exists("/var/lib/rooms/office.rooms"):
         print("""What is left (docs/operating.md), with your own names for alice and staff:
   runuser --pty -u rooms -- rooms init /var/lib/rooms/office.rooms alice staff </dev/null
   systemctl enable --now rooms@office rooms-nightly@office.timer
@@ -185,13 +180,13 @@ def _try_pair(certificate: str, key: str) -> None:
 
 def look_at_settings(made: Changes) -> None:
     """Where there are some already: nothing is made before they are refused."""
-    if os.path.isdir(made.root + os.path.dirname(_OFFICE)):
+    if as_if.isdir(made.root + os.path.dirname(_OFFICE)):
         apply.look(made.root)
 
 
 def look_at_directory(made: Changes, chosen: str) -> settings.Directory | None:
     """Everything that can be refused is, before a file is written."""
-    if not made.root and not os.path.isdir("/etc/nginx"):
+    if not made.root and not as_if.isdir("/etc/nginx"):
         raise Refused("no nginx: apt-get install nginx")
     if chosen == "none":
         return None
@@ -199,7 +194,7 @@ def look_at_directory(made: Changes, chosen: str) -> settings.Directory | None:
     if made.root:
         return where
     if not (os.access("/usr/sbin/apache2", os.X_OK)
-            and os.path.exists("/usr/lib/apache2/modules/mod_authnz_ldap.so")):
+            and as_if.exists("/usr/lib/apache2/modules/mod_authnz_ldap.so")):
         raise Refused("no Apache: apt-get install apache2-bin")
     try:
         getpwnam(changes.CHECKER)
@@ -238,7 +233,7 @@ def _new_guests(root: str) -> list[settings.Place]:
 
 def look_at_guests(made: Changes, chosen: str) -> None:
     """Before nginx asks a file for them that it didn't ask."""
-    if chosen or made.root or not os.path.isdir(made.root + os.path.dirname(guests.FILE)):
+    if chosen or made.root or not as_if.isdir(made.root + os.path.dirname(guests.FILE)):
         return
     if rooms := _new_guests(made.root):
         for line in guests.look(made.root, settings.directory(guests.FILE), rooms):
@@ -260,7 +255,7 @@ def _switch(made: Changes, chosen: str, where: settings.Directory | None) -> Non
     if where is None:
         for line in guests.back(made.root, template.gather(made.root).shown):
             print(line)
-        for name in sorted(os.listdir(made.root + "/etc/rooms")):
+        for name in sorted(as_if.listdir(made.root + "/etc/rooms")):
             path = f"/etc/rooms/{name}"
             if name.endswith((".conf", ".on")) and settings.value(
                     made.root + path, "PASSWORDS") == "directory":
@@ -280,9 +275,9 @@ def _keep_directory(made: Changes, restarts: bool) -> None:
     """What follows from its settings, once it was switched on."""
     apache.key(made)
     changed = False
-    if os.path.exists(made.root + apache.FILE) and os.path.exists(made.root
-                                                                  + "/etc/rooms/directory"):
-        changed = apache.put(made, settings.directory(made.root + "/etc/rooms/directory"))
+    there = made.root + guests.FILE
+    if as_if.exists(made.root + apache.FILE) and as_if.exists(there):
+        changed = apache.put(made, settings.directory(there))
     for key in sorted(glob.glob("/etc/rooms/*.keytab")) if not made.root else []:
         changed |= _give_key(made, key)
     if changed and restarts:
@@ -307,7 +302,7 @@ def _run_passwords(made: Changes, chosen: str) -> None:
     if chosen == "none":
         made.systemctl("disable", "--now", _UNIT)
     elif not chosen:
-        if (not os.path.islink(f"/etc/systemd/system/multi-user.target.wants/{_UNIT}")
+        if (not as_if.islink(f"/etc/systemd/system/multi-user.target.wants/{_UNIT}")
                 and any(one.passwords == "directory" for one in template.gather("").shown)):
             made.systemctl("enable", "--now", _UNIT)
     else:
@@ -320,7 +315,7 @@ def default_is_packaged(root: str) -> bool:
     """The site is what the package says, and it shows no other page than the package's."""
     file = "/etc/nginx/sites-available/default"
     link = f"{root}/etc/nginx/sites-enabled/default"
-    if not os.path.islink(link) or os.readlink(link) not in (file, "../sites-available/default"):
+    if not as_if.islink(link) or as_if.readlink(link) not in (file, "../sites-available/default"):
         return False
     said = changes.run("dpkg-query", f"--admindir={root}/var/lib/dpkg", "-W",
                        "-f=${Conffiles}\\n", "nginx-common", check=False)[1] \
@@ -329,7 +324,7 @@ def default_is_packaged(root: str) -> bool:
     try:
         with open(root + file, "rb") as source:
             got = hashlib.md5(source.read()).hexdigest()
-        shown = os.listdir(f"{root}/var/www/html")
+        shown = as_if.listdir(f"{root}/var/www/html")
     except FileNotFoundError as fault:
         if fault.filename == root + file:
             return False
@@ -341,12 +336,12 @@ def _tell_disabled(made: Changes) -> None:
     """Rooms that are there and aren't served, as after a package was removed and came back."""
     if made.dry or made.root:
         return
-    for name in sorted(os.listdir("/etc/rooms")):
+    for name in sorted(as_if.listdir("/etc/rooms")):
         room, path = settings.name_of(name), f"/etc/rooms/{name}"
         if not name.endswith(".conf") or settings.value(path, "UNIT") not in ("", f"rooms@{room}"):
             continue
         wants = [f"/etc/systemd/system/multi-user.target.wants/rooms@{room}.service",
                  f"/etc/systemd/system/timers.target.wants/{settings.nightly_unit(room)}.timer"]
-        if os.path.exists(settings.value(path, "FILE")) and not all(map(os.path.islink, wants)):
+        if as_if.exists(settings.value(path, "FILE")) and not all(map(os.path.islink, wants)):
             print(f"the room {room} isn't served, or has no backups, until: systemctl enable --now "
                   f"rooms@{room} {settings.nightly_unit(room)}.timer")

@@ -6,7 +6,7 @@ import os
 import re
 from dataclasses import dataclass
 
-from ..host import commands, safe
+from ..host import as_if, commands, safe
 from ..room import names, settings, waits
 from ..passwords import passwords
 from ..cli.report import Refused, say
@@ -71,7 +71,7 @@ def gather(root: str) -> Site:
     for whoever makes an image of a machine."""
     folder = root + "/etc/rooms"
     rooms = []
-    for name in sorted(os.listdir(folder)):
+    for name in sorted(as_if.listdir(folder)):
         word, kind = settings.name_of(name), os.path.splitext(name)[1]
         path = os.path.join(folder, name)
         if kind not in (".conf", ".on") or not names.is_room(word):
@@ -81,7 +81,7 @@ def gather(root: str) -> Site:
         if word in TAKEN:
             raise Refused(f"bad name: {path}: /{word} belongs to the site itself")
         rooms.append(settings.place(path))
-    front = (settings.front(root + SETTINGS) if os.path.exists(root + SETTINGS)
+    front = (settings.front(root + SETTINGS) if as_if.exists(root + SETTINGS)
              else Front())
     found = Site(front, rooms, os.path.join(share(root), "page"), _http2(root))
     _check(found, folder)
@@ -98,7 +98,7 @@ def _http2(root: str) -> str:
     """By the version of nginx, which Debian says also of a machine that isn't running yet."""
     admin = f"{root}/var/lib/dpkg"
     words = (["dpkg-query", f"--admindir={admin}", "-W", "-f", "${Version}", "nginx"]
-             if root and os.path.isdir(admin) else ["/usr/sbin/nginx", "-v"])
+             if root and as_if.isdir(admin) else ["/usr/sbin/nginx", "-v"])
     try:
         done = commands.run(words)
     except OSError:
@@ -113,11 +113,19 @@ def _check_alone(site: Site, folder: str) -> None:
     """What one room of this machine alone can have. A file also belongs to one with a unit of
     somebody's own, which isn't of the site; several settings of one unit are of one server."""
     files: dict[str, tuple[str, str]] = {}
-    for name in sorted(one for one in os.listdir(folder) if one.endswith(".conf")):
+    units: dict[str, tuple[str, str]] = {}
+    for name in sorted(one for one in as_if.listdir(folder) if one.endswith(".conf")):
         path = f"{folder}/{name}"
         file, unit = (settings.value(path, one) for one in ("FILE", "UNIT"))
         mine = unit or f"rooms@{settings.name_of(name)}", path
-        other = files.setdefault(os.path.normpath(file), mine) if file else mine
+        if not file:
+            continue
+        file = os.path.normpath(file)
+        served = units.setdefault(mine[0], (file, path))
+        if served[0] != file:
+            raise Refused(f"unit in use: {served[1]} has {mine[0]} too, and UNIT in {path} has to "
+                          "be another one")
+        other = files.setdefault(file, mine)
         if other[0] != mine[0]:
             raise Refused(f"file in use: {other[1]} has {file} too, and FILE in {path} has to be "
                           "another one")
@@ -285,8 +293,7 @@ def is_edited(text: str) -> bool:
 
 def read(place: str) -> str:
     try:
-        with open(place, encoding="utf-8", errors="surrogateescape") as source:
-            return source.read()
+        return as_if.read(place).decode(errors="surrogateescape")
     except FileNotFoundError:
         return ""
 

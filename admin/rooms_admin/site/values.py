@@ -1,7 +1,5 @@
 """Settings that a verb writes: the site's where there are none, and those that it changes."""
-import os
-import stat
-
+from ..host import as_if
 from ..host.changes import Changes
 from ..room import names, settings
 from . import template
@@ -39,15 +37,15 @@ def set_values(made: Changes, path: str, wanted: dict[str, str]) -> None:
         text = changed(template.read(made.root + path), wanted)
         said = ", ".join(f"{name}={value}" for name, value in wanted.items())
         place = made.root + path
-        mode = stat.S_IMODE(os.stat(place).st_mode) if os.path.exists(place) else 0o644
-        made.file(path, text.encode(errors="surrogateescape"), mode, what=f", with {said}")
+        made.file(path, text.encode(errors="surrogateescape"), as_if.mode(place, 0o644),
+                  what=f", with {said}")
 
 
 def tell_gone(made: Changes) -> None:
     """In the files of rooms, once: what says nothing any more is a comment from then on. A port
     that was in reserve goes, and is passed on once somebody sets it."""
     folder = made.root + "/etc/rooms"
-    for file in sorted(os.listdir(folder)):
+    for file in sorted(as_if.listdir(folder)):
         path = f"{folder}/{file}"
         if not (file.endswith(".conf") and names.is_room(settings.name_of(file))):
             continue
@@ -55,13 +53,13 @@ def tell_gone(made: Changes) -> None:
         if found:
             text = changed(text, {"PORT": settings.port(path)})
             made.file(f"/etc/rooms/{file}", text.encode(errors="surrogateescape"),
-                      stat.S_IMODE(os.stat(path).st_mode),
+                      as_if.mode(path, 0o644),
                       what=f", where {' and '.join(found)} said what each room has now")
 
 
 def put_site(made: Changes) -> None:
     """The settings of the site, where there are none."""
-    if os.path.exists(made.root + template.SETTINGS):
+    if as_if.exists(made.root + template.SETTINGS):
         return
     text = """\
 # Settings of the site of all rooms: NAME=value, without quotes. After a change: rooms-admin setup

@@ -8,7 +8,7 @@ import tempfile
 
 from ..cli import words
 from ..host import locks
-from ..room import names
+from ..room import forms
 from . import authority
 from ..cli.report import Refused
 from ..host.root import ROOT
@@ -29,7 +29,7 @@ def run(given: argparse.Namespace) -> int:
     if given.machine and (given.domain or hosts[0] in ("authority", "front", "machine")):
         raise Refused("bad arguments: --machine takes no --domain, and no file's name as HOST")
     for host in hosts:
-        if not names.is_host(host) or host.replace(".", "").isdigit():
+        if not forms.is_machine(host):
             raise Refused(f"bad arguments: '{host}' isn't the name of a machine in a network")
     if given.domain:
         authority.look_at_domain(given.domain, hosts)

@@ -2,9 +2,9 @@
 told of it away. The room's file, its backups, its passwords and what it takes from a directory
 stay, so that the same name can be added again."""
 import argparse
-import os
 
 from ..cli import words
+from ..host import as_if
 from ..host.changes import changes_asked_for
 from ..room import settings
 from . import adding, apply, password_files, removing
@@ -20,7 +20,7 @@ def run(given: argparse.Namespace) -> int:
     name = given.name
     with adding.alone_with(made, name):
         on = f"/etc/rooms/{name}.on"
-        if os.path.lexists(made.root + on):
+        if as_if.lexists(made.root + on):
             there = settings.value(made.root + on, "ON")
             made.remove(on)
             removing.say_kept(made, password_files.all_of(name))
@@ -29,6 +29,5 @@ def run(given: argparse.Namespace) -> int:
             removing.remove_room(made, name)
         # The settings don't come back if nginx refuses: the server is stopped.
         made.forget()
-        if not made.dry:
-            apply.show(made)
+        apply.show(made)
     return 0

@@ -6,12 +6,12 @@ import argparse
 import os
 import re
 
-from ..backup import copying
-from ..cli import alike, words
-from ..host import locks
+from ..backup import copying, standby
+from ..cli import alike, report, words
+from ..host import as_if, locks
 from ..host.changes import Changes, changes_asked_for
 from ..room import server, settings, there
-from . import apply, ports, setting_up, template, values
+from . import apply, ports, served, setting_up, template, values
 from ..cli.report import Refused, say
 
 # Who reads what only when it starts.
@@ -29,14 +29,23 @@ def arguments(parser: words.Parser) -> None:
     words.image(parser)
 
 
-def _wanted(given: list[str], path: str, known: dict[str, str]) -> dict[str, str]:
+def _elsewhere(root: str, path: str, name: str) -> str:
+    """Where a room of another machine has a setting that only its own file has."""
+    if settings.kind_of(path) is settings.Place and name in settings.known(settings.Room):
+        room, machine = settings.name_of(path), settings.value(root + path, "ON")
+        return f": the room {room} is on {machine}; there: {report.typed}"
+    return ""
+
+
+def _wanted(given: list[str], root: str, path: str, known: dict[str, str]) -> dict[str, str]:
     found: dict[str, str] = {}
     for one in given:
         name, equals, value = one.partition("=")
         if not equals or "\n" in value:
             raise Refused(f"bad arguments: '{one}' isn't NAME=VALUE")
         if name not in known:
-            raise Refused(f"no setting: {path} has no {name}{alike.meant(name, known)}")
+            raise Refused(f"no setting: {path} has no {name}"
+                          + (_elsewhere(root, path, name) or alike.meant(name, known)))
         if name in found:
             raise Refused(f"bad arguments: {name} stands twice")
         if name == "MAIL" and re.search(r"[^,\s]\s+[^,\s]", value):
@@ -70,7 +79,21 @@ def _need_places(path: str, wanted: dict[str, str]) -> None:
     if "PROGRAM" in wanted:
         there.need_program(path, wanted["PROGRAM"])
     if "FILE" in wanted:
-        there.folder(path, wanted["FILE"])
+        there.need_file(path, wanted["FILE"])
+
+
+def _need_copies(path: str, text: str, wanted: dict[str, str]) -> None:
+    """Where no copy could come, the next run would say it, at night."""
+    looks = {"BACKUPS": copying.hindered, "STANDBY": standby.hindered}
+    with as_if.supposed(path, text.encode(errors="surrogateescape")):
+        for name in looks.keys() & wanted.keys():
+            if wanted[name] and (why := looks[name](settings.room(path))):
+                raise Refused(why)
+
+
+def _need_certificate(path: str, host: str) -> None:
+    if host and os.path.exists(template.SETTINGS):
+        served.need_for(settings.front(template.SETTINGS), host, path)
 
 
 def _need_port(path: str, text: str, wanted: dict[str, str]) -> None:
@@ -104,7 +127,7 @@ def _look_at_all(root: str, path: str, text: str) -> str:
     if not os.path.isdir(root + "/etc/rooms"):
         return ""
     before = _refusal(root)
-    with settings.supposed(root + path, text):
+    with as_if.supposed(root + path, text.encode(errors="surrogateescape")):
         then = _refusal(root)
     if then and not before:
         raise Refused(then)
@@ -142,7 +165,7 @@ def run(given: argparse.Namespace) -> int:
     with locks.machine(made.root, made.dry):
         if not os.path.exists(made.root + path):
             raise Refused(f"no settings: {path} isn't there")
-        wanted = _wanted(given.values, path, settings.known(kind))
+        wanted = _wanted(given.values, made.root, path, settings.known(kind))
         text = template.read(made.root + path)
         then = values.changed(text, wanted)
         settings.look_at(path, then)
@@ -151,6 +174,8 @@ def run(given: argparse.Namespace) -> int:
             settings.need_own_port(path, wanted["PORT"])
         if not made.root:
             _need_places(path, wanted)
+            _need_copies(path, then, wanted)
+            _need_certificate(path, wanted.get("HOST", ""))
             _need_port(path, then, wanted)
             _need_pair(made, kind, then, wanted)
         refusal = _look_at_all(made.root, path, then)
@@ -161,19 +186,6 @@ def run(given: argparse.Namespace) -> int:
         print("nothing to change")
     else:
         _tell(made, path, changed, kind, refusal)
-        if "BACKUPS" in changed and not made.root:
-            _see_backups(path, then)
     if "FILE" in changed and not made.root and not os.path.exists(wanted["FILE"]):
         say(f"no file: {wanted['FILE']} isn't there, and without it the server doesn't start again")
     return 0
-
-
-def _see_backups(path: str, text: str) -> None:
-    """The next run would say it, at night."""
-    try:
-        with settings.supposed(path, text):
-            why = copying.hindered(settings.room(path))
-    except Refused as stop:
-        why = str(stop)
-    if why:
-        say(why)
