@@ -18,7 +18,7 @@ sys.path.insert(0, os.path.join(os.path.dirname(__file__), "..", "..", "admin"))
 
 from rooms_admin.backup import dates, for_search  # noqa: E402
 from rooms_admin.cli.report import Refused  # noqa: E402
-from rooms_admin.host import changes, locks, mail, root  # noqa: E402
+from rooms_admin.host import accounts, changes, locks, mail, root  # noqa: E402
 from rooms_admin.room import health, server, settings  # noqa: E402
 from rooms_admin.check import finding, front, verb_tell, watched  # noqa: E402
 from rooms_admin.site import apply, certificates, served, setting_up, verb_set  # noqa: E402
@@ -58,6 +58,20 @@ class Watched(unittest.TestCase):
     def hangs() -> list[finding.Finding]:
         time.sleep(60)
         return []
+
+    def test_accounts_beside_nginx(self) -> None:
+        """By the group's row, or as their first one."""
+        group = types.SimpleNamespace(gr_gid=33, gr_mem=["mallory", "www-data"])
+        with tempfile.TemporaryDirectory() as at, \
+                unittest.mock.patch.object(accounts, "ROOT", at), \
+                unittest.mock.patch("grp.getgrnam", return_value=group):
+            os.mkdir(f"{at}/etc")
+            for rows, names in (("", "mallory"), ("web:x:1002:33::/:/bin/sh\n", "mallory, web")):
+                with open(f"{at}/etc/passwd", "w", encoding="utf-8") as out:
+                    out.write(f"www-data:x:33:33::/:/bin/sh\nbob:x:1001:100::/:/bin/sh\n{rows}")
+                self.assertEqual(watched.see_accounts(), [(
+                    finding.WARNING, "not safe: in the group www-data, and so any user of each "
+                    f"room: {names}; gpasswd -d NAME www-data")])
 
     def test_a_disk_that_hangs(self) -> None:
         began = time.monotonic()

@@ -70,8 +70,9 @@ def run(given: argparse.Namespace) -> int:
     directory = watched.within(watched.PATIENCE, watched.see_directory, "what asks the directory")
     files = watched.within(watched.PATIENCE, front.see_files, "nginx -t")
     guests = watched.within(watched.PATIENCE, watched.see_guests, "the directory")
-    machine = [*watched.see_units(), *watched.see_run(), *directory, *guests, *files,
-               *front.see_connections(), *front.see_tls(), *watched.see_certificates()]
+    machine = [*watched.see_units(), *watched.see_accounts(), *watched.see_run(), *directory,
+               *guests, *files, *front.see_connections(), *front.see_tls(),
+               *watched.see_certificates()]
     if given.json:
         report.put_rows([{"room": name, "level": _WORDS[level].lower(), "text": text}
                          for name, found in [*rooms, ("", machine)]

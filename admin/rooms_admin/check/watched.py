@@ -11,7 +11,7 @@ import shutil
 import time
 from collections.abc import Callable
 
-from ..host import locks, root, waiting
+from ..host import accounts, locks, root, waiting
 from ..host.at_socket import AtSocket
 from ..room import awaited, limit, needs, server, settings
 from ..backup import backups, dates, for_search, growth, hours
@@ -383,6 +383,11 @@ def see_guests() -> list[Finding]:
 def see_run() -> list[Finding]:
     """Where all units and verbs have names: nothing starts without one. A service may fill it."""
     return [_space(locks.RUN, locks.RUN, 0)]
+
+
+def see_accounts() -> list[Finding]:
+    others = accounts.beside_nginx()
+    return [(WARNING, accounts.told(others))] if others else []
 
 
 def see_units() -> list[Finding]:

@@ -7,7 +7,7 @@ import shutil
 import tempfile
 from pwd import getpwnam, struct_passwd
 
-from ..host import as_if, changes, commands
+from ..host import accounts, as_if, changes, commands
 from ..room import forms, program as runs, settings
 from ..passwords import passwords
 from ..directory import directory, guests
@@ -80,6 +80,8 @@ def _user(made: Changes) -> None:
         except KeyError:
             if made.does(f"user {name}"):
                 changes.run("systemd-sysusers", "rooms.conf")
+    if others := accounts.beside_nginx():
+        say(accounts.told(others))
     _take_home(made)
 
 
