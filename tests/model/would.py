@@ -351,7 +351,8 @@ def ask(kept: Kept, change: Change, counts: Counts) -> None:
     """The answer with the members and the one without them, and what came of the change."""
     objects, pairs = kept.objects(), [f"member {a} {b}" for a, b in sorted(kept.room.pairs)]
     answers = []
-    for members in (pairs, []):
+    none: list[str] = []
+    for members in (pairs, none):
         callers = supposed(kept, UNNAMED if members else [*USERS, *UNNAMED])
         text = "\n".join([*members, *callers, *objects, *change.lines, ""])
         answers.append(Answer(kept.runs("would", text=text), callers, members))

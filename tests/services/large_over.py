@@ -22,6 +22,8 @@ ADD = f"list:ap {MANAGE} {KEEP} A:fdg:staff:rxtc A:dg:staff:wa"
 READ = f"list:ap {MANAGE} {KEEP} A:fdg:staff:rxtc {OWN}"
 # (of tests alone: the parts are as few as in a document of 100 MB, and the bytes are less)
 SMALL = 1000
+# Requests: the method, the target, the body and further fields.
+Tries = tuple[tuple[str, str, bytes | str, dict[str, str]], ...]
 
 
 def tag_of(data: bytes) -> str:

@@ -440,8 +440,7 @@ def times(program: str, folder: str, count: int) -> None:
 def many(program: str, folder: str, count: int, place: str = "") -> None:
     """In folders of a hundred, each document of some 7,000 letters."""
     chance, words = random.Random(3), vocabulary()
-    here: Callable[..., object] = feed.text_of if place else _read_here
-    with mock.patch.object(feed, "text_of", here):
+    with mock.patch.object(feed, "text_of", feed.text_of if place else _read_here):
         one = Searched(program, f"{folder}/many", place)
         bulk, size = Bulk(one.lab.room), 0
         kinds = ["pdf", "docx", "odt", "xlsx", "eml"]

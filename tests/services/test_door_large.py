@@ -10,7 +10,7 @@ from collections.abc import Iterator
 from unittest import mock
 
 from judged_room import ALL
-from large_over import ADD, DROP, KEEP, MANAGE, READ, SMALL, Large, data_of, tag_of
+from large_over import ADD, DROP, KEEP, MANAGE, READ, SMALL, Large, Tries, data_of, tag_of
 from rooms_admin.room import in_parts
 from rooms_admin.room.in_parts import LARGEST
 from rooms_services.door.large import replacing
@@ -287,7 +287,7 @@ class Replaced(Large):
         text = f"list:p A::alice:{ALL} A::bob:rwaxtc"
         self.ask("PUT", "/door/dacl/p/d", "\n".join(text.split()), "alice", If_Match="*")
         self.assertEqual(self.put(data_of(4 * SMALL, 2), "bob", match="*"), 204)
-        self.assertEqual(set(map(frozenset, self.who_can("r").values())),
+        self.assertEqual({frozenset(users) for users in self.who_can("r").values()},
                          {frozenset(("alice", "bob"))})
         self.assertEqual(self.got("pat"), 403)
 
@@ -336,11 +336,12 @@ class Together(Large):
         """Where there are very many parts."""
         text = f"list:p A::alice:{ALL} A::pat:rwaxtcd A::bob:r".replace(" ", "\n")
         with mock.patch.object(large, "HELD", 5):
-            for method, target, body, fields in (
-                    ("PUT", "/door/dacl/p/d", text, {"If-Match": "*"}),
-                    ("PUT", "/door/attr/p/d", '{"owner":"pat","group":"staff"}', {}),
-                    ("POST", "/door/move/p/d", '{"to":"/p/e"}', {}),
-                    ("DELETE", "/door/object/p/e", "", {})):
+            tries: Tries = (
+                ("PUT", "/door/dacl/p/d", text, {"If-Match": "*"}),
+                ("PUT", "/door/attr/p/d", '{"owner":"pat","group":"staff"}', {}),
+                ("POST", "/door/move/p/d", '{"to":"/p/e"}', {}),
+                ("DELETE", "/door/object/p/e", "", {}))
+            for method, target, body, fields in tries:
                 self.judged.connections.clear()
                 status, _, _ = self.ask(method, target, body, "alice", **{
                     name.replace("-", "_"): value for name, value in fields.items()})

@@ -83,8 +83,10 @@ class Drive(Large):
             if not meanwhile:
                 meanwhile.append(self.put(data_of(4 * SMALL, 3), match="*"))
             return write(*given)
-        for fields, status in [({"If_Match": tag_of(self.data)}, 412), ({}, 204),
-                               ({"If": f"([{tag_of(data_of(5 * SMALL, 2))}])"}, 412)]:
+        tries: list[tuple[dict[str, str], int]] = [
+            ({"If_Match": tag_of(self.data)}, 412), ({}, 204),
+            ({"If": f"([{tag_of(data_of(5 * SMALL, 2))}])"}, 412)]
+        for fields, status in tries:
             meanwhile: list[int] = []
             with mock.patch.object(replacing, "write", later):
                 self.assertEqual(self.dav("PUT", "/p/d", data_of(5 * SMALL, 2), "bob", **fields),

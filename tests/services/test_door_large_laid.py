@@ -7,7 +7,7 @@ from unittest import mock
 
 from fake_room import Said
 from judged_room import ALL
-from large_over import DROP, MANAGE, SMALL, Large, data_of
+from large_over import DROP, MANAGE, SMALL, Large, Tries, data_of
 from rooms_admin.room import in_parts
 from rooms_services.door.large import held, replacing
 from rooms_services.room import large, turns
@@ -108,14 +108,15 @@ class Closed(Large):
         self.put(b"small", "pat")
         self.put_list("/p", f"list:ap {MANAGE} A::pat:x")
         with mock.patch.object(held, "PATIENCE", 3.0), held.HELD.alone(("p", "d")):
-            for method, target, body, fields in (
-                    ("PUT", "/door/doc/p/d", "other", {"If_Match": "*"}),
-                    ("PUT", "/door/doc/p/d", data_of(4 * SMALL), {"If_Match": "*"}),
-                    ("PUT", "/door/dacl/p/d", "list:p\n", {"If_Match": "*"}),
-                    ("PUT", "/door/attr/p/d", '{"owner":"bob","group":"staff"}', {}),
-                    ("POST", "/door/move/p/d", '{"to":"/e/d"}', {}),
-                    ("POST", "/door/move/e/x", '{"to":"/p/d"}', {}),
-                    ("DELETE", "/door/object/p/d", "", {}), ("DELETE", "/door/left/p/d", "", {})):
+            tries: Tries = (
+                ("PUT", "/door/doc/p/d", "other", {"If_Match": "*"}),
+                ("PUT", "/door/doc/p/d", data_of(4 * SMALL), {"If_Match": "*"}),
+                ("PUT", "/door/dacl/p/d", "list:p\n", {"If_Match": "*"}),
+                ("PUT", "/door/attr/p/d", '{"owner":"bob","group":"staff"}', {}),
+                ("POST", "/door/move/p/d", '{"to":"/e/d"}', {}),
+                ("POST", "/door/move/e/x", '{"to":"/p/d"}', {}),
+                ("DELETE", "/door/object/p/d", "", {}), ("DELETE", "/door/left/p/d", "", {}))
+            for method, target, body, fields in tries:
                 status = self.ask(method, target, body, "bob", **fields)[0]
                 self.assertIn(status, (403, 404), (method, target))
             self.assertEqual(self.ask("DELETE", "/door/object/p/d", user="pat")[0], 503)
@@ -137,18 +138,19 @@ class Many(Large):
             if said[0] == 403:
                 self.denied.append(target)
             return said
-        self.judged.answer = noting    # type: ignore[method-assign]
+        setattr(self.judged, "answer", noting)
 
     def lay(self, user: str) -> None:
         for number in range(1, 41):
             self.judged.does(user, "PUT", f"/doc/p/d{in_parts.end_of(number)}")
 
     def test_nothing_is_denied(self) -> None:
-        for method, target, body, fields in (
-                ("PUT", "/door/doc/p/d", "other", {"If_Match": "*"}),
-                ("POST", "/door/move/p/d", '{"to":"/p/e"}', {}),
-                ("MOVE", "/drive/p/e", "", {"Destination": "/drive/p/d"}),
-                ("DELETE", "/door/object/p/d", "", {})):
+        tries: Tries = (
+            ("PUT", "/door/doc/p/d", "other", {"If_Match": "*"}),
+            ("POST", "/door/move/p/d", '{"to":"/p/e"}', {}),
+            ("MOVE", "/drive/p/e", "", {"Destination": "/drive/p/d"}),
+            ("DELETE", "/door/object/p/d", "", {}))
+        for method, target, body, fields in tries:
             status, _, said = self.ask(method, target, body, "pat", **fields)
             self.assertIn(status, (201, 204), (method, target, said))
             self.assertEqual(self.denied, [], (method, target))
@@ -180,10 +182,11 @@ class Many(Large):
     def test_others_ask_in_between(self) -> None:
         """Also of what is removed with its folder's names, and of a small document."""
         with mock.patch.object(large, "HELD", 5):
-            for method, target, body, fields in (
-                    ("PUT", "/door/doc/p/d", "other", {"If_Match": "*"}),
-                    ("PUT", "/drive/p/d", "other", {}),
-                    ("POST", "/door/remove/p", '["d"]', {"If_Match": "*"})):
+            tries: Tries = (
+                ("PUT", "/door/doc/p/d", "other", {"If_Match": "*"}),
+                ("PUT", "/drive/p/d", "other", {}),
+                ("POST", "/door/remove/p", '["d"]', {"If_Match": "*"}))
+            for method, target, body, fields in tries:
                 self.judged.connections.clear()
                 status, _, _ = self.ask(method, target, body, "pat", **fields)
                 self.assertIn(status, (200, 204), target)

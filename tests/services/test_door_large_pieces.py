@@ -72,9 +72,10 @@ class Pieces(InPieces):
 
     def test_sizes_that_lie(self) -> None:
         upload = self.begin(3 * SMALL + 1)
-        for number, length in ((1, SMALL - 1), (1, SMALL // 2), (1, 0), (4, SMALL), (4, 2), (4, 0),
-                               (5, 1), (0, SMALL), ("01", SMALL), ("-1", SMALL), ("x", SMALL),
-                               ("%C2%B2", SMALL), (10_000, SMALL)):
+        lies: list[tuple[int | str, int]] = [
+            (1, SMALL - 1), (1, SMALL // 2), (1, 0), (4, SMALL), (4, 2), (4, 0), (5, 1), (0, SMALL),
+            ("01", SMALL), ("-1", SMALL), ("x", SMALL), ("%C2%B2", SMALL), (10_000, SMALL)]
+        for number, length in lies:
             self.assertEqual(self.piece(upload, number, bytes(length)), (400, "bad-length"))
         # (more than a piece is more than any body but a document's)
         self.assertEqual(self.piece(upload, 1, bytes(SMALL + 1)), (413, "too-large"))

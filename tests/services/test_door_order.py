@@ -2,6 +2,7 @@
 import json
 import sqlite3
 import unittest
+from typing import Any
 from unittest import mock
 
 from dated_door import NOW, Dated, line
@@ -43,8 +44,8 @@ class Orders(Dated):
     def test_beside_a_folder_that_moves(self) -> None:
         """What comes into it at the same moment isn't known, and all else is."""
         for begin, one, other in (1.0, "g", "h"), (10.0, "h", "g"):
-            into = "PUT", f"/doc/f/{one}/new", 201
-            moves = "POST", f"/move/f/{one}", 204, f"/f/{other}"
+            into: tuple[Any, ...] = "PUT", f"/doc/f/{one}/new", 201
+            moves: tuple[Any, ...] = "POST", f"/move/f/{one}", 204, f"/f/{other}"
             early, late = (moves, into) if begin == 1.0 else (into, moves)
             self.add(between(begin, begin + 0.01, *early), between(begin - 0.01, begin + 1, *late))
             self.assertEqual((self.known("f", other), self.known("f", one)), ({"c": 3}, {}))

@@ -6,6 +6,7 @@ import socket
 import threading
 import time
 import unittest
+from typing import Any
 from unittest import mock
 
 import papers
@@ -365,7 +366,8 @@ class Untrue(Searching):
             self.assertEqual(self.found("stolen", user="bob"), {})
 
     def test_what_isn_t_an_answer(self) -> None:
-        good = {"empty": 0, "hits": [[2, 9]], "night": "2026-11-30.020000", "unknown": []}
+        good: dict[str, Any] = {"empty": 0, "hits": [[2, 9]], "night": "2026-11-30.020000",
+                                "unknown": []}
         patch = mock.patch.object(asking, "SECONDS", 0.3)
         patch.start()
         self.addCleanup(patch.stop)

@@ -85,10 +85,10 @@ def package(data: bytes, sink: Sink) -> State:
         kind = next((one for one in _KINDS if one.mark in names), None)
         if kind is None:
             return State.NONE
-        wide = 0
+        mark, wide = kind.mark, 0
         # What it is comes before what stands round it.
         for info in sorted((one for one in infos if kind.parts.fullmatch(one.filename)),
-                           key=lambda one: (one.filename != kind.mark, one.filename)):
+                           key=lambda one: (one.filename != mark, one.filename)):
             if info.flag_bits & 1:
                 raise Closed
             wide = _part(packed, info, Xml(sink, kind.only), wide)

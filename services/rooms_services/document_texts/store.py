@@ -12,7 +12,7 @@ import struct
 from array import array
 from bisect import bisect_left
 from collections.abc import Iterable, Iterator
-from typing import IO, NamedTuple
+from typing import IO, Any, NamedTuple
 
 from .extract import VERSION
 from .sink import State
@@ -91,8 +91,8 @@ class Making:
         """It is on the disk, and whole."""
         with self._out:
             _sync(self._out)
-        head = {**about, "form": FORM, "reader": VERSION, "size": self._size,
-                "documents": len(self._rows)}
+        head: dict[str, object] = {**about, "form": FORM, "reader": VERSION, "size": self._size,
+                                   "documents": len(self._rows)}
         with open(f"{self._folder}/index", "xb") as out:
             out.write(json.dumps(head).encode() + b"\n")
             for number, total in sorted(self._rows):
@@ -162,7 +162,7 @@ class Store:
             raise ValueError("the texts aren't whole")
         self._parts = _parts_in(folder)
 
-    def _each(self) -> Iterator[tuple[int, int, int, int, bytes]]:
+    def _each(self) -> Iterator[tuple[Any, ...]]:
         return _ROW.iter_unpack(memoryview(self._rows)[self._begin:])
 
     def _place(self, number: int) -> Place | None:

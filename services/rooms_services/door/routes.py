@@ -174,7 +174,8 @@ def _name_of(asked: Asked) -> str:
 def _put_piece(asked: Asked) -> Answer:
     if len(asked.names) != 2:
         raise Stop(404, "no-upload", "no such upload")
-    return asked.uploads.put(asked.user, *asked.names, asked.body)
+    upload, number = asked.names
+    return asked.uploads.put(asked.user, upload, number, asked.body)
 
 
 def _pieces(asked: Asked) -> Answer:

@@ -6,6 +6,7 @@ their senders' pace, and have their turn once they are here. A door that is to e
 takes nobody any more and answers whom it has taken; who comes then waits at the socket, which
 systemd keeps for the next one."""
 import http.server
+import io
 import os
 import re
 import select
@@ -95,6 +96,7 @@ class Handler(http.server.BaseHTTPRequestHandler):
     timeout = SECONDS
     door: Door
     server: "Server"
+    rfile: io.BufferedReader
     # How many bytes of the body nobody has read yet, or what it is read by where it doesn't say its
     # length; whether nobody will, since they are too many; and whether they come at their sender's
     # pace.

@@ -1,5 +1,6 @@
 """What a line of the journal does to the rows."""
 from collections.abc import Callable
+from functools import partial
 
 from ...room.paths import Names
 from . import lines
@@ -51,7 +52,7 @@ class Changing:
         does = self._does.get((change.method, change.route))
         if does is not None and change.names and change.at > self._since and change.outcome in (
                 Outcome.DONE, Outcome.UNKNOWN):
-            self._in_order(change, lambda: does(change, By(change.at, change.user)))
+            self._in_order(change, partial(does, change, By(change.at, change.user)))
 
     def _in_order(self, change: Change, does: Callable[[], None]) -> None:
         """Where it may have come before one whose line came first, nothing is known of what both
