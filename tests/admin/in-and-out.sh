@@ -199,6 +199,14 @@ transfers import --as root --room "$room" tree /in
 told 'another document is there' 1 'not replaced: another document is there' 'left out 1'
 transfers export --as root --no-lists --room "$room" /in/ümlaut kept
 holds 'and stays' [ "$(cat kept)" = ä ]
+transfers import --dry-run --as root --room "$room" tree /in
+told 'which is said before' 1 'not replaced: another document is there' \
+  'would be made 0, replaced 0, there already 12, left out 1'
+transfers import --dry-run --as root --replace --room "$room" tree /in
+told 'and what would be replaced' 0 'would be replaced /in/' \
+  'would be made 0, replaced 1, there already 12, left out 0'
+transfers export --as root --no-lists --room "$room" /in/ümlaut kept-still
+holds 'and is not' [ "$(cat kept-still)" = ä ]
 transfers import --as root --replace --room "$room" tree /in
 told 'unless asked to, where it differs' 0 'made 0, replaced 1, there already 12, left out 0'
 transfers export --as root --no-lists --room "$room" /in again
@@ -222,6 +230,12 @@ transfers import --as eve --room "$room" tree /in
 holds 'and not to who is called' [ "$(grep -c 'asked as' "$work/err")" = 0 ]
 
 # The folders above PATH come with it. Where one can't be made, that is told once.
+transfers import --dry-run --as root --room "$room" 'tree/a b' '/new/a b/%2F'
+told 'what would be made' 0 'would be made /new/a\ b/%2F/%2F/nothing' \
+  'would be made 6, replaced 0, there already 0, left out 0'
+transfers import --dry-run --as eve --room "$room" 'tree/a b' '/new/a b/%2F'
+told 'what a stranger may not' 1 '/new: not made: 403' \
+  'would be made 0, replaced 0, there already 0, left out 1'
 transfers import --as root --room "$room" 'tree/a b' '/new/a b/%2F'
 told 'a path whose folders are missing' 0 'made 6, replaced 0, there already 0, left out 0'
 transfers import --as root --room "$room" 'tree/a b' '/new/a b/%2F'

@@ -2,6 +2,7 @@
 import os
 from collections import Counter
 from dataclasses import dataclass, field
+from typing import BinaryIO
 
 from ..cli import report
 from ..host import safe
@@ -10,6 +11,10 @@ from ..cli.report import Refused, Stop, say
 from ..room.http_client import Client, Reply
 from ..room.in_parts import LARGEST
 from ..room.size import NoRoom, Reader
+
+
+# So many are told by name.
+_FEW = 20
 
 
 class Full(Refused):
@@ -29,11 +34,12 @@ class Space:
         except Stop as stop:
             say(str(stop))
 
-    def need(self, size: int) -> None:
+    def need(self, size: int, before: int) -> None:
+        """Behind what would come before it."""
         if self.limit is None:
             return
         try:
-            used = self.reader.look()
+            used = self.reader.look() + before
         except NoRoom:
             return
         if used + size > self.limit << 20:
@@ -43,26 +49,78 @@ class Space:
 
 
 class Import:
-    def __init__(self, client: Client, replace: bool, space: Space | None) -> None:
+    """In a dry run nothing is sent. What the room would say is asked of it, as far as it says what
+    isn't tried: what would be made takes all that would be made in it."""
+
+    def __init__(self, client: Client, replace: bool, space: Space | None, dry: bool) -> None:
         self.client = client
         self.replace = replace
         self.space = space
-        self.made = self.replaced = self.same = self.number = self.total = 0
+        self.dry = dry
+        self.made = self.replaced = self.same = self.number = self.total = self.would_come = 0
+        self.would_make: list[bytes] = []
+        self.would_replace: list[bytes] = []
+        self.new_folders: set[bytes] = set()
+
+    def need(self, size: int) -> None:
+        if self.space:
+            self.space.need(size, self.would_come)
+
+    def _asked_for(self, path: bytes, of_new: str, of_old: str) -> Reply:
+        """What the room would say to a change, by these rights at the folder or at what is there;
+        the reply of one that is there already without `of_old`."""
+        above = path.rpartition(b"/")[0] or b"/"
+        if above in self.new_folders:
+            return Reply(201, b"")
+        there = self.client.ask("GET", "can", path)
+        if there.status not in (200, 404):
+            return there
+        is_new = there.status == 404
+        at, right = (above, of_new) if is_new else (path, of_old)
+        if not right:
+            return Reply(409, b'{"why":"exists"}')
+        # A question that is denied would be recorded.
+        if not is_new and self.client.may(path, "r"):
+            there = self.client.ask("GET", "doc", path)
+        if there.status == 409:
+            return there
+        if self.client.may(at, right):
+            return Reply(201 if is_new else 204, b"")
+        return Reply(403, f"the right {right} is denied at {names.shown(at)}".encode())
+
+    def _post(self, path: bytes) -> Reply:
+        if not self.dry:
+            return self.client.ask("POST", "folder", path)
+        found = self._asked_for(path, "a", "")
+        if found.status == 201:
+            self.new_folders.add(path)
+        return found
+
+    def _put(self, word: str, path: bytes, data: bytes | BinaryIO, size: int,
+             fields: dict[str, str] | None = None) -> Reply:
+        if not self.dry:
+            return self.client.ask("PUT", word, path, data, fields)
+        self.would_come += size
+        return self._asked_for(path, "w", "w")
+
+    def _counts_made(self, path: bytes) -> None:
+        self.made += 1
+        if len(self.would_make) <= _FEW:
+            self.would_make.append(path)
 
     def make_folder(self, path: bytes, name: bytes) -> None:
-        if self.space:
-            self.space.need(0)
-        got = self.client.ask("POST", "folder", path)
+        self.need(0)
+        got = self._post(path)
         if got.status == 201:
-            self.made += 1
-        elif got.status == 409:
-            if b'"why":"exists"' in got.body and (
-                    self.client.ask("GET", "doc", path).status != 200):
-                self.same += 1
-            else:
-                self.client.report(name, f"not made, since a document is in the way: {got.text()}")
-        elif self.client.is_there(path):
+            self._counts_made(path)
+            return
+        # Without the right to make one nothing is said of what is there.
+        is_there = b'"why":"exists"' in got.body or (
+            got.status != 409 and self.client.is_there(path))
+        if is_there and self.client.ask("GET", "doc", path).status != 200:
             self.same += 1
+        elif is_there or got.status == 409:
+            self.client.report(name, f"not made, since a document is in the way: {got.text()}")
         else:
             self.client.report(name, f"not made: {got.text()}")
 
@@ -90,9 +148,8 @@ class Import:
         elif self._has(data, path):
             self.same += 1
             return
-        if self.space:
-            self.space.need(len(data))
-        self.told(self.client.ask("PUT", "doc", path, data), name)
+        self.need(len(data))
+        self.told(self._put("doc", path, data, len(data)), path, name)
 
     def _has(self, data: bytes, path: bytes) -> bool:
         """Whether the same document is there, if that can be read: what isn't replaced keeps its
@@ -117,19 +174,20 @@ class Import:
             self.client.report(name, "not replaced: another document is there; --replace would "
                                "replace it")
         else:
-            if self.space:
-                self.space.need(size)
+            self.need(size)
             seen = {"If-None-Match": "*"} if there.status == 404 else {"If-Match": "*"}
             os.lseek(number, 0, os.SEEK_SET)
             with open(os.dup(number), "rb") as data:
-                self.told(self.client.ask("PUT", "door/doc", path, data, {
-                    **seen, "Content-Length": str(size)}), name)
+                self.told(self._put("door/doc", path, data, size, {
+                    **seen, "Content-Length": str(size)}), path, name)
 
-    def told(self, got: Reply, name: bytes) -> None:
+    def told(self, got: Reply, path: bytes, name: bytes) -> None:
         if got.status == 201:
-            self.made += 1
+            self._counts_made(path)
         elif got.status == 204:
             self.replaced += 1
+            if len(self.would_replace) <= _FEW:
+                self.would_replace.append(path)
         else:
             self.client.report(name, f"not sent: {got.text()}")
 
@@ -144,6 +202,18 @@ class Import:
         else:
             self.client.report(name, "not replaced: another document is there; --replace would "
                                "replace it")
+
+    def text(self) -> list[str]:
+        """What was done; or what would be, by name where that is little."""
+        left = self.client.left_out
+        if not self.dry:
+            return [f"made {self.made}, replaced {self.replaced}, there already {self.same}, "
+                    f"left out {left}"]
+        named = [f"would be {what} {names.shown(path)}"
+                 for what, paths in (("made", self.would_make), ("replaced", self.would_replace))
+                 if len(paths) <= _FEW for path in paths]
+        return [*named, f"would be made {self.made}, replaced {self.replaced}, there already "
+                f"{self.same}, left out {left}"]
 
     def folder(self, at: int, path: bytes, name: bytes) -> None:
         for child in children(at):

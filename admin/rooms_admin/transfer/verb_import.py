@@ -15,7 +15,7 @@ from ..backup import dates
 from . import importing
 from ..cli.report import Refused, say
 from ..room.http_client import (Client, argument, caller_arguments, caller_of, client, is_here,
-                                most_of, raise_limits)
+                                raise_limits)
 
 
 def arguments(parser: words.Parser) -> None:
@@ -23,7 +23,7 @@ def arguments(parser: words.Parser) -> None:
     words.word(parser, "path", "PATH", "the folder of the room that gets all in it")
     words.flag(parser, "--replace", "replace documents that are there and differ")
     words.flag(parser, "--force", "fill a room of this machine beyond its limit")
-    words.dry_run(parser, "what wouldn't be taken over")
+    words.dry_run(parser, "what would be made, replaced and left out, as far as the room says it")
     caller_arguments(parser)
 
 
@@ -40,24 +40,19 @@ def run(given: argparse.Namespace) -> int:
                       f"one, unlike '{given.path}'")
     tally = importing.Tally()
     tally.look(at)
-    asked = None
-    if not given.dry_run:
-        asked = client(given.room, caller_of(given), "the same command goes on where this one "
-                       "stopped", True)
+    asked = client(given.room, caller_of(given), "the same command goes on where this one stopped",
+                   True)
     if tally.large:
-        tally.judge(asked.largest() if asked else most_of(given.room))
+        tally.judge(asked.largest())
     say(tally.text())
-    if asked is None:
-        return 1 if tally.out else 0
     return _send(given, asked, at, to, tally.total)
 
 
 def _send(given: argparse.Namespace, asked: Client, at: int, to: bytes, total: int) -> int:
     space = None if given.force or not is_here(given.room) else importing.Space(given.room)
-    task = importing.Import(asked, given.replace, space)
+    task = importing.Import(asked, given.replace, space, given.dry_run)
     task.total = total
-    if space:
-        space.need(0)
+    task.need(0)
     ended = False
     try:
         if to == b"/" or task.make_way(to):
@@ -68,10 +63,9 @@ def _send(given: argparse.Namespace, asked: Client, at: int, to: bytes, total: i
         ended = True
         say(str(full))
     finally:
-        if task.replaced and is_here(given.room):
+        if task.replaced and not task.dry and is_here(given.room):
             # nginx has no part in it.
             dates.tell_changed(settings.room(given.room), to)
     report.end_progress()
-    print(f"made {task.made}, replaced {task.replaced}, there already {task.same}, "
-          f"left out {asked.left_out}")
+    print("\n".join(task.text()))
     return 1 if ended or asked.left_out else 0
