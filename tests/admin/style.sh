@@ -41,7 +41,7 @@ else
   skip 'style' 'flake8 is missing'
 fi
 for tested in test_pure test_backups test_told test_attacks test_texts test_limits test_keep \
-  test_deputy test_spreadsheet test_elsewhere test_importing; do
+  test_deputy test_spreadsheet test_elsewhere test_importing test_large_lists; do
   (cd "$here/admin" && PYTHONPATH=$repo/admin python3 -B -m unittest "$tested") >"$work/out" 2>&1
   status=$?
   holds "the pure parts, $tested: $(tail -n 20 "$work/out")" [ "$status" = 0 ]

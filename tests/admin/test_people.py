@@ -191,8 +191,11 @@ class Runs(unittest.TestCase):
 
     def told(self, night: bytes, now: bytes | None = None,
              last: datetime.date | None = None) -> list[str]:
+        def printed(_room: Room, _word: str, _megabytes: int, into: int) -> bytes:
+            os.write(into, night if now is None else now)
+            return b""
         with tempfile.TemporaryDirectory() as place, unittest.mock.patch.object(
-                ended.members, "printed", return_value=night if now is None else now):
+                ended.look.members, "printed", printed):
             with open(f"{place}/lists.txt", "wb") as lists:
                 lists.write(night)
             with open(f"{place}/lists.txt", "rb") as source:

@@ -14,7 +14,7 @@ from dataclasses import dataclass
 from ..cli import report, words
 from ..room import in_parts, names, private_server, program, server, settings
 from . import dump, naming, strangers
-from ..people import joining, look, members
+from ..people import joining, look
 from . import asked
 from ..cli.report import Refused, Stop, say
 from ..room.settings import Room
@@ -56,9 +56,9 @@ class _List:
                      *(f"- {one}" for one in there if one not in ignored)]
 
 
-def _whole(lists: bytes, path: bytes, which: str) -> _List:
+def _whole(lists: look.Lists, path: bytes, which: str) -> _List:
     links = naming.Links()
-    for one in dump.parsed(lists.split(b"\n")):
+    for one in lists.objects():
         passed = links.passed(one.path)
         linked = links.of(one)
         if one.path == path:
@@ -70,39 +70,49 @@ def _whole(lists: bytes, path: bytes, which: str) -> _List:
     raise Refused(f"no object: {names.shown(path)} isn't in the room")
 
 
-def _refuse_parts(lists: bytes, path: bytes) -> None:
+def _refuse_parts(lists: look.Lists, path: bytes) -> None:
     """Whoever could read a document in parts could read the rest of it by these."""
     above, _, name = path.rpartition(b"/")
-    beside = [os.fsdecode(one.path[len(above) + 1:]) for one in dump.parsed(lists.split(b"\n"))
+    beside = [os.fsdecode(one.path[len(above) + 1:]) for one in lists.objects()
               if one.kind == "document" and one.path.rpartition(b"/")[0] == above]
     if os.fsdecode(name) in in_parts.hidden(beside).values():
         raise Refused(f"not set: {names.shown(path)} is kept in parts: who manages it sets the list"
                       " of all of them, in the web interface")
 
 
-def _one(lists: bytes, path: bytes, which: str) -> _List:
+def _one(lists: look.Lists, path: bytes, which: str) -> _List:
     _refuse_parts(lists, path)
     return _whole(lists, path, which)
 
 
-def _look(room: Room, path: bytes, which: str, text: bytes, is_dry: bool
-          ) -> tuple[_List, bytes]:
-    """The list before, once the other one was tried, and all lists."""
+def _look(room: Room, path: bytes, which: str, text: bytes, lists: look.Lists, is_dry: bool
+          ) -> _List:
+    """The list before, once the other one was tried; and all of them in `lists`."""
     if server.settled(room) != "active" or server.was_left(room):
-        lists = look.at(room, "dump", may_stop=not is_dry)[0]
-        return _one(lists, path, which), lists
+        look.got(look.tried(room, "dump", lists=lists, may_stop=not is_dry)[0])
+        return _one(lists, path, which)
     with look.copied(room) as copy:
-        lists = look.on(room, copy, "dump")
+        look.on(room, copy, lists, "dump")
         before = _one(lists, path, which)
         if fault := private_server.set_list(room, copy, path, text, which):
             raise Refused(f"not set: {fault}")
-        return before, lists
+        return before
+
+
+def _now(room: Room, path: bytes, which: str) -> _List:
+    """While no server runs."""
+    with look.no_lists() as lists:
+        look.at_rest(room, lists, "dump")
+        return _one(lists, path, which)
 
 
 def _set(room: Room, path: bytes, which: str, text: bytes, is_dry: bool) -> int:
-    found, lists = _look(room, path, which, text, is_dry)
-    before = found.own
-    after, ignored = found.sent(text)
+    with look.no_lists() as lists:
+        found = _look(room, path, which, text, lists, is_dry)
+        before = found.own
+        after, ignored = found.sent(text)
+        new = set(after) - set(before)
+        strange = list(strangers.told(room, lists.rows, new)) if new else []
     if ignored:
         say(f"not set: {', '.join(ignored)}: what has the flag I comes with the list of the folder "
             "above; list:ap closes this one to it")
@@ -112,12 +122,12 @@ def _set(room: Room, path: bytes, which: str, text: bytes, is_dry: bool) -> int:
     for line in list(difflib.unified_diff(before, after, lineterm="", n=0))[2:]:
         if line[0] != "@":
             print(f"{line[0]} {line[1:]}", flush=True)
-    for said in strangers.told(room, lists, set(after) - set(before)):
+    for said in strange:
         say(said)
     if is_dry:
         return 1 if ignored else 0
     with server.at_rest(room):
-        if _one(members.printed(room, "dump"), path, which).own != before:
+        if _now(room, path, which).own != before:
             raise Refused(f"changed meanwhile: somebody has set the list of {names.shown(path)}, "
                           "which stays")
         with report.signals_wait():
@@ -142,6 +152,7 @@ def run(given: argparse.Namespace) -> int:
     with joining.locked(room):
         if given.what == "set":
             return _set(room, path, which, text, given.dry_run)
-        found = _whole(look.at(room, "dump", may_stop=False)[0], path, which)
+        with look.lists_of(room, may_stop=False) as lists:
+            found = _whole(lists, path, which)
     print("".join(f"{line}\n" for line in found.lines), end="")
     return 0

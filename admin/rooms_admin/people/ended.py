@@ -12,7 +12,7 @@ from ..host import locks, mail
 from ..room import names, program, server
 from ..backup import backups
 from ..lists import dump
-from . import members
+from . import look
 from ..cli.report import say
 from ..room.settings import Room
 from ..lists.end_dates import Changed, Ending, ending, is_meant, taken_back
@@ -156,7 +156,10 @@ class Run:
         with ExitStack() as after, server.at_rest(self.room):
             # Whoever reads it slowly doesn't hold the server.
             after.callback(self.tell_done)
-            self.set_all(self.find(dump.parsed(members.printed(self.room, "dump").split(b"\n"))))
+            with look.no_lists() as lists:
+                look.at_rest(self.room, lists, "dump")
+                found = self.find(lists.objects())
+            self.set_all(found)
 
     def set_all(self, found: list[Due]) -> None:
         begun = time.monotonic()

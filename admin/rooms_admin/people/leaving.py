@@ -1,8 +1,6 @@
 """Somebody leaves: the password goes first, so they are shut out whatever else is at work with the
 room; then their groups, for which alone the server stops; then what names them is printed, and
 given to somebody else. Whom nothing in the room names is most often somebody else, mistyped."""
-import os
-from collections.abc import Iterator
 from dataclasses import dataclass
 
 from ..cli import alike, report
@@ -57,25 +55,18 @@ def _password_alone(asked: Leaving) -> int:
     return 0
 
 
-def _dump(asked: Leaving, room: Room) -> bytes:
-    return look.at(room, "dump", may_stop=not asked.is_dry)[0]
-
-
-def _rows(lists: bytes) -> Iterator[Object | dump.Pair]:
-    return dump.rows(lists.split(b"\n"))
-
-
 def _need_heir(asked: Leaving, room: Room) -> None:
     """Before anything has changed. No disk of backups is asked."""
     last = known.kept(room)
     has = asked.with_password()
     if asked.heir in has or last and asked.heir in {user for _, user in last.members}:
         return
-    with joining.locked(room):
-        lists = _dump(asked, room)
-    if not any(naming.of_user(_rows(lists), asked.heir)):
-        raise Refused(f"no heir: nobody is called {asked.heir}"
-                      f"{alike.meant(asked.heir, has | dump.users(_rows(lists)))}")
+    with look.no_lists() as lists:
+        with joining.locked(room):
+            look.got(look.tried(room, "dump", lists=lists, may_stop=not asked.is_dry)[0])
+        if not any(naming.of_user(lists.rows(), asked.heir)):
+            raise Refused(f"no heir: nobody is called {asked.heir}"
+                          f"{alike.meant(asked.heir, has | dump.users(lists.rows()))}")
 
 
 def leave(asked: Leaving) -> int:
@@ -93,16 +84,21 @@ def leave(asked: Leaving) -> int:
         # Also of whom a directory has shut out.
         remembered.forget([asked.name])
         dates.tell(room, "forget", asked.name)
+    with look.no_lists() as lists:
+        return _leave_room(asked, room, done, has, lists)
+
+
+def _leave_room(asked: Leaving, room: Room, done: str, has: set[str], lists: look.Lists) -> int:
     with joining.locked(room, "" if asked.is_dry else done, not asked.is_dry) as newest_one:
-        groups, dumped = look.tried(room, "groups-out", "dump", may_stop=not asked.is_dry)
+        groups, dumped = look.tried(room, "groups-out", "dump", lists=lists,
+                                    may_stop=not asked.is_dry)
         before = members.of_program(look.got(groups))
         if isinstance(dumped, Stop):
             _leave_groups(asked, room, before, newest_one)
             raise Stop(f"what else names {asked.name} isn't known: {dumped}")
-        lists = dumped
-        found = list(naming.of_user(_rows(lists), asked.name))
+        found = list(naming.of_user(lists.rows(), asked.name))
         if not done and not found:
-            there = has | dump.users(_rows(lists))
+            there = has | dump.users(lists.rows())
             say(f"nobody: {asked.name} has no password in {asked.file}, is in no group, owns "
                 f"nothing and stands in no list{alike.meant(asked.name, there)}")
             return 1
@@ -118,10 +114,10 @@ def leave(asked: Leaving) -> int:
     return _hand_over(asked, room, lists) if asked.heir else 0
 
 
-def _tell_last(asked: Leaving, room: Room, lists: bytes) -> None:
+def _tell_last(asked: Leaving, room: Room, lists: look.Lists) -> None:
     """Before the groups go that may let others manage the room. The program says who may set the
     list of its root; who leaves goes all the same where it can't."""
-    root = would.question((one for one in _rows(lists) if not isinstance(one, Object)
+    root = would.question((one for one in lists.rows() if not isinstance(one, Object)
                            or one.path == b"/"), b"/", b"/", [b"look /"])
     try:
         who = {one.user for one in would.answered(room, root) if "C" in one.rights} if root else ()
@@ -146,12 +142,8 @@ def _leave_groups(asked: Leaving, room: Room, before: set[dump.Pair], newest_one
     offered.show(room, after, newest_one)
 
 
-def _hand_over(asked: Leaving, room: Room, lists: bytes) -> int:
+def _hand_over(asked: Leaving, room: Room, lists: look.Lists) -> int:
     """By requests of the heir's, so that what the room denies them is left out and told. The lists
     have no name, so a kill leaves none of them."""
-    number = os.memfd_create("lists", os.MFD_CLOEXEC)
-    with os.fdopen(number, "wb") as file:
-        file.write(lists)
-        file.flush()
-        return handing_over.give(room.conf, Caller(as_user=asked.heir), f"/proc/self/fd/{number}",
-                                 asked.name, asked.heir, asked.is_dry)
+    return handing_over.give(room.conf, Caller(as_user=asked.heir),
+                             f"/proc/self/fd/{lists.number}", asked.name, asked.heir, asked.is_dry)

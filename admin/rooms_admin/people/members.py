@@ -3,6 +3,7 @@ while no server runs."""
 import hashlib
 import os
 
+from ..host import commands
 from ..room import names, program
 from . import spreadsheet
 from ..cli.report import Refused, Stop
@@ -76,8 +77,10 @@ def read(room: Room, megabytes: int = 0) -> set[Pair]:
     return of_program(printed(room, "groups-out", megabytes))
 
 
-def printed(room: Room, word: str, megabytes: int = 0) -> bytes:
-    return done(word, *program.run(room, [word, room.file], megabytes=megabytes))
+def printed(room: Room, word: str, megabytes: int = 0, into: int | None = None) -> bytes:
+    """Nothing of what is written into a file."""
+    return done(word, *program.run(room, [word, room.file], megabytes=megabytes,
+                                   stdout=commands.PIPE if into is None else into))
 
 
 def change(room: Room, joins: set[Pair], leaves: set[Pair]) -> str:

@@ -25,6 +25,5 @@ def run(given: argparse.Namespace) -> int:
     if not backups.known(room).backups:
         raise Refused("no backup yet, by whose date the clock is judged: systemctl start "
                       f"{room.nightly}")
-    with locks.lock(room.unit, 60):
-        lists = look.at(room, "dump", may_stop=not given.dry_run)[0].split(b"\n")
-        return 1 if ended.take_back(room, lists, ended.last_day(room), given.dry_run) else 0
+    with locks.lock(room.unit, 60), look.lists_of(room, not given.dry_run) as lists:
+        return 1 if ended.take_back(room, lists.file, ended.last_day(room), given.dry_run) else 0
