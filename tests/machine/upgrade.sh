@@ -177,8 +177,25 @@ prints 'stays' KEEP=7 MemoryMax=2147483648
 does 'once more' 'rooms-admin setup'
 holds 'has nothing to change' grep -qx 'nothing to change' "$work/out"
 # And back, by the page.
-does 'what 1.1.0 reads' "systemctl disable --now rooms-port@invoices.socket
-  $(block docs/upgrading.md 'SOCKET=yes DOOR=yes')"
+# A room of the newer package has settings that 1.1.0 doesn't know.
+does 'a room that is new' 'rooms-admin add --title New new nina staff'
+does 'what 1.1.0 reads' "$(block docs/upgrading.md 'SOCKET=yes DOOR=yes')"
+running="for unit in \$(systemctl list-units --plain --no-legend 'rooms*' | sed 's/ .*//'); do
+  case \$unit in rooms-passwords.* | rooms-firewall.* | rooms-connections.* | *.timer) ;;
+    *) systemctl show -p MainPID --value \"\$unit\" ;; esac; done | grep '^[1-9]' | sort"
+does 'what runs before' "$running"
+cp "$work/out" ran
+holds 'something does' [ -s ran ]
 does 'the way back' "dpkg -i --force-confold was.deb && systemctl restart 'rooms@*'"
 goes_on 'with 1.1.0'
+does 'its settings are those that 1.1.0 reads' 'rooms-admin setup'
+does 'what runs then' "$running"
+comm -12 ran "$work/out" >found
+same 'no process of the newer package is left' found /dev/null
+does 'what it left' "systemctl list-units --all --plain --no-legend 'rooms*' |
+  awk '\$2 != \"loaded\" && \$3 != \"inactive\"'"
+same 'nor a unit that 1.1.0 has not' "$work/out" /dev/null
+does 'what is enabled' "for link in /etc/systemd/system/*.wants/rooms*; do
+  [ -e \"\$link\" ] || echo \"\$link\"; done"
+same 'nor its link' "$work/out" /dev/null
 stop_machine
