@@ -375,6 +375,9 @@ class Watched(unittest.TestCase):
                 with open(f"{home}/office.conf", "w", encoding="ascii") as file:
                     file.write(text)
                 self.assertEqual(verb_tell.mail_of("other"), wanted)
+        # nginx ends where an account has its port.
+        self.assertTrue(verb_tell._UNIT.fullmatch("nginx.service"))
+        self.assertFalse(verb_tell._UNIT.fullmatch("ssh.service"))
 
     def test_a_name_stands_for_its_settings(self) -> None:
         settings.HOME = "/etc/rooms"

@@ -58,7 +58,9 @@ does 'a worker that is killed' 'before=$(systemctl show nginx -p MainPID --value
 does 'nginx that is stopped stays so' \
   'systemctl stop nginx; sleep 2; [ "$(systemctl is-active nginx)" = inactive ]'
 does 'and one that can not start' 'echo "nonsense;" >/etc/nginx/conf.d/ends.conf
-  ! systemctl start nginx && sleep 2 && [ "$(systemctl is-active nginx)" = failed ]'
+  ! systemctl start nginx && sleep 2 && [ "$(systemctl is-active nginx)" = failed ]
+  systemctl show nginx -p OnFailure --value'
+prints 'is told' rooms-tell@nginx.service.service
 does 'until it can' 'rm /etc/nginx/conf.d/ends.conf; systemctl start nginx'
 until_inside 'nginx asks once more' "[ \"\$($web/can/?)\" = 200 ]"
 

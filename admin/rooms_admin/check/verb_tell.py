@@ -14,7 +14,8 @@ from ..cli.report import Refused, Stop, say
 
 # Standby copies may fail every five minutes: one mail for so many seconds.
 QUIET = 6 * 3600
-_UNIT = re.compile(r"rooms[a-z-]*(@(?P<room>[a-z0-9-]+))?\.(service|socket|timer)", re.ASCII)
+_UNIT = re.compile(r"(nginx|rooms[a-z-]*(@(?P<room>[a-z0-9-]+))?)\.(service|socket|timer)",
+                   re.ASCII)
 
 
 def mail_of(room: str) -> str:
