@@ -330,4 +330,13 @@ if has_sqlite; then
     same "without the program: $path" "alone/out$path" "$work/out"
   done <documents
   holds 'nobody else reads them' [ -z "$(find alone/out -perm /077)" ]
+  # Whoever had the room's server in their hands may have left other names in it.
+  rm -r alone/out
+  sqlite3 alone/office.rooms "UPDATE nodes SET name = '../' || name
+    WHERE id IN (SELECT node FROM bodies LIMIT 1);
+    UPDATE nodes SET name = '..' WHERE id IN (SELECT node FROM bodies LIMIT 1 OFFSET 1)"
+  paste_in "cd $PWD/alone && $(blocks in-and-out.md writefile)"
+  holds "names that lead elsewhere: $(head -c 300 "$work/err")" [ "$status" = 0 ]
+  holds 'are left out' [ "$(find alone -type f ! -name 'office.rooms*' | wc -l)" = \
+    $(($(wc -l <documents) - 2)) ]
 fi
