@@ -1,4 +1,5 @@
 """Accounts of this machine that get to what nginx gets to."""
+import csv
 import grp
 
 from .changes import NGINX
@@ -14,7 +15,7 @@ def beside_nginx() -> list[str]:
         return []
     found = set(group.gr_mem)
     with open(f"{ROOT}/etc/passwd", encoding="utf-8", errors="surrogateescape") as source:
-        for row in (line.split(":") for line in source):
+        for row in csv.reader(source, delimiter=":", quoting=csv.QUOTE_NONE):
             if len(row) > 3 and row[3] == str(group.gr_gid):
                 found.add(row[0])
     return sorted(found - {NGINX})
