@@ -63,8 +63,8 @@ flooded 'half requests from one address' 192.0.2.33 192.0.2.17 192.0.2.18
 flooded 'half requests from one network of IPv6' '[2001:db8:2::1]' 2001:db8:1::1 \
   2001:db8:1::{2,3,4,5}
 
-# Connections that end at once: each stays for a while in the kernel's table of all, which has 65,536
-# of them or more.
+# Connections that end at once: each stays for a while in the kernel's table of all, which has
+# 65,536 of them or more.
 does 'for how long' 'cat /proc/sys/net/netfilter/nf_conntrack_tcp_timeout_time_wait'
 prints 'is short' 10
 cat >short.py <<'END'
