@@ -158,7 +158,7 @@ class Run:
             after.callback(self.tell_done)
             with look.no_lists() as lists:
                 look.at_rest(self.room, lists, "dump")
-                found = self.find(lists.objects())
+                found = self.find(dump.dated(lists.file))
             self.set_all(found)
 
     def set_all(self, found: list[Due]) -> None:
@@ -182,11 +182,11 @@ def last_day(room: Room, tonight: str = "") -> datetime.date | None:
     return backups.day(found[-1].name) if found else None
 
 
-def take_back(room: Room, lists: Iterable[bytes], last: datetime.date | None, dry: bool = False
+def take_back(room: Room, lists: IO[bytes], last: datetime.date | None, dry: bool = False
               ) -> list[str]:
     """By the lists of a backup. Returns what couldn't be taken back, a line each."""
     task = Run(room, dry, last)
-    task.all(dump.parsed(lists))
+    task.all(dump.dated(lists))
     for line in task.undone[:SAID]:
         say(line)
     return task.undone
