@@ -92,9 +92,10 @@ def _move_in_place_of(drive: Drive, call: Call, to: Names, is_folder: bool) -> A
     if failures := trees.kept(call, [(to, is_folder)]):
         return properties.failed(call.prefix, failures)
     with drive.reserved(call, to, call.names):
-        if failures := trees.removable(call, to, is_folder).failures:
-            return properties.failed(call.prefix, failures)
-        reply, failures = tasks.replace(drive.tasks, call, call.user, to, call.names)
+        found = trees.removable(call, to, is_folder)
+        if found.failures:
+            return properties.failed(call.prefix, found.failures)
+        reply, failures = tasks.replace(drive.tasks, call, call.user, to, call.names, found)
         if reply.status == 204:
             drive.locks.gone(to)
         return _answer(call, failures, _moved(drive, call, to, reply, Answer(204)))
@@ -233,15 +234,15 @@ def _copy_folder(drive: Drive, call: Call, to: Names, source: There, target: The
                  depth: str) -> list[Failure]:
     """Under a name of its own first, which then takes its place: what is there stays until all of
     the copy is. (Who may only add couldn't take that name away, and replaces nothing.)"""
-    found = None
+    found = goes = None
     if isinstance(source, Folder) and depth != "0":
         found = trees.readable(call, call.names)
         if found.failures:
             return found.failures
     if target is not None:
-        kept = trees.removable(call, to, isinstance(target, Folder)).failures
-        if kept:
-            return kept
+        goes = trees.removable(call, to, isinstance(target, Folder))
+        if goes.failures:
+            return goes.failures
     elif not trees.lets_go(call, to[:-1]):
         return _filled(drive, call, to, source, found, lambda: None)
     made = tasks.beside(to, "copy")
@@ -250,13 +251,13 @@ def _copy_folder(drive: Drive, call: Call, to: Names, source: There, target: The
         failures = _filled(drive, call, made, source, found, lambda: _refuse_stuck(call, made))
         if failures:
             return Found([], failures).at(to).failures
-        if target is None:
+        if goes is None:
             reply = call.ask(moving(made, to))
         else:
-            reply, failures = tasks.replace(drive.tasks, call, call.user, to, made)
+            reply, failures = tasks.replace(drive.tasks, call, call.user, to, made, goes)
         if reply.status != 204:
             raise stop_of(reply)
-        if target is not None:
+        if goes is not None:
             drive.locks.gone(to)
         return failures
     return tasks.away(drive.tasks, call, call.user, made, fill)

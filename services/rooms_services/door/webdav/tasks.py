@@ -9,6 +9,7 @@ import time
 from collections.abc import Callable, Iterator
 from contextlib import contextmanager
 from dataclasses import dataclass
+from dataclasses import replace as replaced
 
 from ...room.answers import Stop
 from ...room.paths import Names, shown
@@ -37,12 +38,14 @@ def moving(names: Names, to: Names) -> Ask:
 
 @dataclass(frozen=True)
 class Task:
-    """`made` isn't in its place, and goes: a part of a copy, or what is removed. Or `made` takes
-    the place of what is there, which stands aside as `old` meanwhile."""
+    """`made` isn't in its place, and goes: a part of a copy, or what is removed, which was at
+    `place`. Or `made` takes the place of what is there, which stands aside as `old` meanwhile. What
+    stands aside goes only once it is sure that nothing has come to it: else it goes back."""
     user: str
     made: Names
     place: Names | None = None
     old: Names | None = None
+    is_sure: bool = False
 
 
 class Tasks:
@@ -55,14 +58,19 @@ class Tasks:
         self._ending = threading.Lock()
 
     @contextmanager
-    def noted(self, task: Task) -> Iterator[None]:
+    def noted(self, task: Task) -> Iterator[Callable[[], None]]:
+        """Gives what notes that it is sure."""
         with self._kept.alone():
             number = self._kept.rows(
                 "insert into task (user, told, since) values (?, ?, ?) returning number",
-                (task.user, json.dumps([task.made, task.place, task.old]), self._now()))[0][0]
+                (task.user, _told(task), self._now()))[0][0]
             self._under_way.add(number)
+
+        def sure() -> None:
+            self._kept.rows("update task set told = ? where number = ?",
+                            (_told(replaced(task, is_sure=True)), number))
         try:
-            yield
+            yield sure
         except Stop as stop:
             if stop.status not in AWAY:
                 self._end(number)
@@ -100,15 +108,22 @@ class Tasks:
                 raise
 
 
+def _told(task: Task) -> str:
+    return json.dumps([task.made, task.place, task.old, task.is_sure])
+
+
 def _task_of(user: object, told: object) -> Task | None:
     """Whoever had the door in their hands may have noted anything: nothing but what a move or a
     removal puts aside is ended in somebody's name."""
     try:
-        made, place, old = (one and tuple(map(str, one)) for one in json.loads(str(told)))
+        read = json.loads(str(told))
+        made, place, old = (one and tuple(map(str, one)) for one in read[:3])
         aside = (old or made)[-1]
-    except (ValueError, TypeError, IndexError):
+    except (ValueError, TypeError, IndexError, KeyError):
         return None
-    return Task(str(user), made, place, old) if made and _BESIDE.fullmatch(aside) else None
+    if not made or not _BESIDE.fullmatch(aside):
+        return None
+    return Task(str(user), made, place, old, read[3:] == [True])
 
 
 def _is_there(by: Asks, names: Names) -> bool:
@@ -123,11 +138,17 @@ def _gone(by: Asks, names: Names) -> list[trees.Failure]:
 
 
 def _ended(by: Asks, task: Task) -> None:
-    if task.place is None or task.old is None:
-        _gone(by, task.made)
+    if task.old is None:
+        if task.place is None or task.is_sure:
+            _gone(by, task.made)
+        else:
+            by.ask(moving(task.made, task.place))
         return
-    if not _is_there(by, task.old):
+    if task.place is None or not _is_there(by, task.old):
         # Nothing was begun, or all is done.
+        return
+    if not task.is_sure:
+        by.ask(moving(task.old, task.place))
         return
     if not _is_there(by, task.place):
         if by.ask(moving(task.made, task.place)).status != 204:
@@ -139,20 +160,35 @@ def _ended(by: Asks, task: Task) -> None:
     _gone(by, task.old)
 
 
-def replace(tasks: Tasks, by: Asks, user: str, place: Names, made: Names) -> tuple[
-        Reply, list[trees.Failure]]:
-    """`made` takes the place of what is there, which goes: whether it may was asked before. Returns
-    what the room said to the last move, and what couldn't be removed."""
+def _look_again(by: Asks, place: Names, old: Names, found: trees.Found,
+                sure: Callable[[], None]) -> None:
+    """What stands aside is out of everybody's way. What came to it since it was looked through goes
+    back with it, and ends the request."""
+    try:
+        if not trees.is_no_more(by, old, found):
+            raise Stop(412, "changed", f"something came to it meanwhile: {shown(place)}")
+    except Stop as stop:
+        if stop.status not in AWAY:
+            by.ask(moving(old, place))
+        raise
+    sure()
+
+
+def replace(tasks: Tasks, by: Asks, user: str, place: Names, made: Names, found: trees.Found
+            ) -> tuple[Reply, list[trees.Failure]]:
+    """`made` takes the place of what is there, which goes as it was found: whether it may was asked
+    before. Returns what the room said to the last move, and what couldn't be removed."""
     old = beside(place, "old")
-    with tasks.noted(Task(user, made, place, old)):
+    with tasks.noted(Task(user, made, place, old)) as sure:
         reply = by.ask(moving(place, old))
         if reply.status != 204:
             return reply, []
+        _look_again(by, place, old, found, sure)
         reply = by.ask(moving(made, place))
         if reply.status != 204:
             by.ask(moving(old, place))
             return reply, []
-        return reply, _gone(by, old)
+        return reply, trees.remove(by, found.at(old))
 
 
 def remove(tasks: Tasks, by: Asks, user: str, top: Names, found: trees.Found
@@ -162,9 +198,10 @@ def remove(tasks: Tasks, by: Asks, user: str, top: Names, found: trees.Found
     if found.failures or not by.ask(about("GET", "can", top[:-1], "a")).rulings().get("a"):
         return trees.remove(by, found)
     old = beside(top, "old")
-    with tasks.noted(Task(user, old)):
+    with tasks.noted(Task(user, old, top)) as sure:
         if by.ask(moving(top, old)).status != 204:
             return trees.remove(by, found)
+        _look_again(by, top, old, found, sure)
         try:
             failures = trees.remove(by, found.at(old))
         except Stop as stop:

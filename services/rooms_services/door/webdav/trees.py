@@ -4,6 +4,7 @@ all is done or nothing, unless somebody changes rights or things in between."""
 from collections.abc import Callable
 from dataclasses import dataclass
 
+from ...room import large
 from ...room.answers import Stop
 from ...room.paths import Names, shown
 from ...room.room import Reply, about
@@ -80,6 +81,14 @@ def removable(by: Asks, top: Names, is_folder: bool) -> Found:
     """What is there, and what of it may not go."""
     found = walk(by, top) if is_folder else Found([(top, False)], [])
     return Found(found.objects, found.failures or kept(by, found.objects))
+
+
+def is_no_more(by: Asks, place: Names, found: Found) -> bool:
+    """Whether nothing is at the place that wasn't found, before it was moved there."""
+    if not found.objects[0][1]:
+        return large.is_document(by.ask, place)
+    now = walk(by, place)
+    return not now.failures and set(now.objects) <= set(found.at(place).objects)
 
 
 def remove(by: Asks, found: Found) -> list[Failure]:
