@@ -7,10 +7,12 @@ the name of one is told, and as long as it is there no backup is removed."""
 import contextlib
 import datetime
 import errno
+import hashlib
 import os
 import re
+import struct
 import time
-from collections.abc import Iterable
+from collections.abc import Callable, Iterable
 from dataclasses import dataclass, field
 
 from ..host import safe, waiting
@@ -18,9 +20,11 @@ from ..cli.report import Refused, say
 from ..room.settings import Room
 
 DATED = re.compile(r"\d{4}-\d\d-\d\d\.\d{6}", re.ASCII)
-# Beside the two files: which run it was, and how large they are. Both are written once the copy was
-# found sound. (Who copies a folder by names may be cut off between a room's file and its log.)
+# Beside the two files: which run it was, and how large they are; where there is a log, also the
+# room's file's SHA-256. Both are written once the copy was found sound. (Who copies a folder by
+# names may be cut off between a room's file and its log.)
 RUN, FILES = "run", "files-of-run"
+_SUM = "sha256"
 # What the program leaves of a log that it has brought into the file.
 _EMPTY_LOG = 41
 # A clock may be ahead for a night. Where it is further from the last backup than that, what would
@@ -146,40 +150,82 @@ def make_closed(place: str) -> None:
                       "option umask=0077")
 
 
+def begin(place: str) -> None:
+    """Before there is anything else in a new one: `cp` takes files by their numbers on the disk, so
+    that a copy which is cut off has this list before the room's file."""
+    with safe.opened(safe.own_folder(place)) as within:
+        safe.new_file(within, FILES, b"", 0o600)
+
+
 def give_number(within: int, number: int, base: str) -> None:
     """What makes a copy a backup, once it was found sound: before it gets its name all of it is on
     the disk, since one whose number a power cut took would count as older than all others."""
-    sizes = "".join(f"{os.stat(name, dir_fd=within).st_size} {name}\n"
-                    for name in (base, f"{base}-wal") if name in os.listdir(within))
-    for name, text in ((FILES, sizes), (RUN, f"number {number}\n")):
-        safe.new_file(within, name, os.fsencode(text), 0o600)
-        with safe.opened(safe.own_file_below(within, name)) as made:
+    has = [name for name in (base, f"{base}-wal") if name in os.listdir(within)]
+    rows = [f"{os.stat(name, dir_fd=within).st_size} {name}" for name in has]
+    if len(has) > 1:
+        rows.append(f"{_SUM} {_sum(within, base)}")
+    for name, text in ((FILES, "\n".join(rows)), (RUN, f"number {number}")):
+        with safe.opened(os.open(
+                name, os.O_WRONLY | os.O_CREAT | os.O_TRUNC | os.O_NOFOLLOW | os.O_CLOEXEC, 0o600,
+                dir_fd=within)) as made:
+            safe.write_all(made, os.fsencode(f"{text}\n"))
             os.fsync(made)
     os.fsync(within)
 
 
-def _not_whole(within: int, file: str) -> str:
+def _sum(within: int, file: str) -> str:
+    found = hashlib.sha256()
+    with safe.opened(safe.file_below(within, file)) as source:
+        while part := os.read(source, 1 << 20):
+            found.update(part)
+    return found.hexdigest()
+
+
+def _not_whole(within: int, file: str,
+               read: Callable[[int, str], int] = safe.own_file_below) -> str:
     """What a room's copy lacks: without its log, or with a part of it, it is the room of an earlier
-    moment. Whoever had the program look into it here has brought the log into the file."""
+    moment. Whoever had the program look into it here has brought the log into the file, which is
+    another one since."""
     there = os.listdir(within)
     if not there:
         return "it is empty"
     try:
-        with safe.opened(safe.own_file_below(within, FILES)) as listed:
-            rows = os.fsdecode(os.read(listed, 2000)).splitlines()
+        with safe.opened(read(within, FILES)) as listed:
+            text = os.fsdecode(os.read(listed, 2000))
             noted = os.fstat(listed).st_mtime
     except FileNotFoundError:  # Of a version that wrote none.
         return ""
-    sizes = {name: int(size) for size, _, name in (row.partition(" ") for row in rows)
-             if size.isdecimal()}
+    if not text:
+        return f"{FILES} is empty"
+    rows = {name: what for what, _, name in (row.partition(" ") for row in text.splitlines())}
+    sizes = {name: int(size) for name, size in rows.items() if size.isdecimal()}
     # Without it in that list it is another room's, or of before FILE was another.
-    if file not in sizes or (file in there and os.stat(file, dir_fd=within).st_mtime > noted):
+    if file not in sizes:
         return ""
     for name, size in sizes.items():
         has = os.lstat(name, dir_fd=within).st_size if name in there else 0
-        if has < size and has != _EMPTY_LOG:
+        if has >= size or has == _EMPTY_LOG:
+            continue
+        if not _was_changed(within, file, has if name == file else 0, noted,
+                            next((one for one, what in rows.items() if what == _SUM), "")):
             return f"{name} has {has} of {size} bytes"
     return ""
+
+
+def _was_changed(within: int, file: str, shorter: int, noted: float, total: str) -> bool:
+    """Whether somebody has brought the log into the file, since the run made both. Its time tells
+    that of no copy: many have the moment at which they were copied."""
+    try:
+        with safe.opened(safe.file_below(within, file)) as source:
+            if shorter:
+                size, pages = map(int, struct.unpack(">16xH10xI",
+                                                     os.read(source, 32).ljust(32, b"\0")))
+                return 0 < pages * (65536 if size == 1 else size) <= shorter
+            if not total:  # Of a version that wrote none.
+                return os.fstat(source).st_mtime > noted
+    except FileNotFoundError:
+        return False
+    return _sum(within, file) != total
 
 
 def _number(within: int) -> int:
@@ -343,7 +389,8 @@ def find(room: Room, backup: str) -> str:
 
     def why_not(place: str) -> str:
         with contextlib.suppress(safe.NoFile), safe.opened(safe.folder(place)) as within:
-            return _not_whole(within, room.base)
+            # Of a disk that root has mounted for somebody all is theirs.
+            return _not_whole(within, room.base, safe.file_below)
         return ""
     got = waiting.answer(waiting.PATIENCE, asked, os.path.dirname(places[-1]))
     if not isinstance(got, list) or not got:
@@ -353,3 +400,14 @@ def find(room: Room, backup: str) -> str:
     if got[2]:
         raise Refused(f"not whole: {got[1]}: {got[2]}")
     return os.path.abspath(str(got[1]))
+
+
+def tell_bare(place: str) -> None:
+    """What has a backup's name and nothing of a run's own may be a part of a copy: to whoever is
+    about to rely on it."""
+    def asked() -> bool:
+        return any(os.path.lexists(os.path.join(place, name)) for name in (RUN, FILES))
+    if DATED.fullmatch(os.path.basename(place)) and not waiting.answer(
+            waiting.PATIENCE, asked, place):
+        say(f"no number: {place} is of an early version, or copying it was cut off: its log may "
+            "lack, with the last changes")

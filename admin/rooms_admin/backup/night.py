@@ -94,9 +94,10 @@ class Night:
     def back_up(self, owned: ExitStack) -> None:
         try:
             backups.make_closed(self.part)
-        except OSError as fault:
+            backups.begin(self.part)
+        except (OSError, safe.NoFile) as fault:
             raise Stop(f"no folder: {self.part} can't be made, so nothing was copied: "
-                       f"{fault.strerror}") from fault
+                       f"{safe.why(fault)}") from fault
         self.copy_room()
         before = backups.look(self.room)
         self.keep_copy(owned, 1 + max((one.number for one in before.backups), default=0))

@@ -62,6 +62,7 @@ class Taken:
 @contextmanager
 def taken_from(room: Room, place: str) -> Iterator[Taken]:
     """For whoever has no lock: its disk may hang."""
+    backups.tell_bare(place)
     with private_server.private_copy(room, place) as copied:
         verified(room, copied, place)
         yield Taken(place, copied, dates.Restored(room, place))

@@ -23,7 +23,9 @@ def run(given: argparse.Namespace) -> int:
         raise Refused(f"bad arguments: '{given.path}' isn't the path of a document")
     room = settings.room(given.room)
     # A copy, since the program puts the log of a room that it opens into its file.
-    with private_server.private_copy(room, backups.find(room, given.backup)) as copied:
+    backup = backups.find(room, given.backup)
+    backups.tell_bare(backup)
+    with private_server.private_copy(room, backup) as copied:
         for part in _parts(room, copied, path):
             sys.stdout.buffer.write(part)
     sys.stdout.buffer.flush()

@@ -45,7 +45,9 @@ def run(given: argparse.Namespace) -> int:
         raise Refused("bad arguments: nobody is asked for a backup: --user, --as, --config and "
                       "--without-tls are of rooms")
     room = settings.room(given.room)
-    with private_server.private_copy(room, backups.find(room, given.backup)) as copied:
+    backup = backups.find(room, given.backup)
+    backups.tell_bare(backup)
+    with private_server.private_copy(room, backup) as copied:
         acls, closed = exporting.open_all(room, copied, path)
         with private_server.served(room, copied, 1000000):
             here = f"http://127.0.0.1:{private_server.PORT}"
