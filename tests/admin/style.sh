@@ -8,7 +8,7 @@ if ! has python3; then
 fi
 printf '%s\n' '[mypy]' 'strict = True' "cache_dir = $PWD/mypy" '[mypy-ldap.*]' \
   'ignore_missing_imports = True' >mypy.ini
-typed=("$here"/admin/test_{pure,backups,told,attacks,texts,limits,deputy,elsewhere,whole}.py)
+typed=("$here"/admin/test_{pure,backups,told,attacks,texts,limits,deputy,elsewhere,whole,night}.py)
 if has mypy; then
   MYPYPATH=$repo/admin:$repo/services mypy --config-file mypy.ini "$repo/admin/rooms_admin" \
     "$repo"/services/rooms_services/{apart.py,picture.py,scgi.py,port.py,wait.py,own_password} \
@@ -41,7 +41,8 @@ else
   skip 'style' 'flake8 is missing'
 fi
 for tested in test_pure test_backups test_told test_attacks test_texts test_limits test_keep \
-  test_deputy test_spreadsheet test_elsewhere test_importing test_large_lists test_whole; do
+  test_deputy test_spreadsheet test_elsewhere test_importing test_large_lists test_whole \
+  test_night; do
   (cd "$here/admin" && PYTHONPATH=$repo/admin python3 -B -m unittest "$tested") >"$work/out" 2>&1
   status=$?
   holds "the pure parts, $tested: $(tail -n 20 "$work/out")" [ "$status" = 0 ]
