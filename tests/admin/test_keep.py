@@ -276,7 +276,8 @@ class Whole(Folder):
             file.write(b"x" * 41)
         self.assertEqual(backups.find(self.room, "latest"), place)
         os.unlink(log)
-        os.utime(f"{place}/{self.room.base}")
+        with open(f"{place}/{self.room.base}", "wb") as file:
+            file.write(b"y")
         self.assertEqual(backups.find(self.room, "latest"), place)
 
     def test_nor_is_one_without_its_file(self) -> None:

@@ -37,7 +37,7 @@ class Night(Folder):
         run.kept = self.backup("2026-11-30.040000", 1)
         with patch.object(run, "on_copy", return_value=(status, b"", text)), \
                 contextlib.redirect_stderr(io.StringIO()):
-            run.write_text("records.csv", word, [])
+            run.write_text("records.csv", word)
         return run.failures
 
     def test_very_many_records_are_named(self) -> None:
@@ -63,7 +63,7 @@ class Review(Folder):
         run.copied, run.memory = f"{self.home}/copy", 100
         with open(run.copied, "w", encoding="ascii"), \
                 contextlib.redirect_stderr(io.StringIO()):
-            run.write_text(texts.REVIEW, "review", ["/"])
+            run.write_text(texts.REVIEW, "review", "/")
         self.assertIn(f"it wrote more than 32 MB; the backup {run.kept} is sound, but it has no "
                       "review.csv", run.failures[0])
         self.assertNotIn(texts.REVIEW, os.listdir(run.kept))

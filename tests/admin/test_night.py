@@ -1,7 +1,14 @@
 """A night beside what hinders it: what it does even so, and what it tells."""
+import contextlib
+import io
 import os
 import re
 import unittest
+from unittest.mock import patch
+
+from rooms_admin.room import program
+from rooms_admin.backup import backups, dates, night, texts
+from test_backups import Folder
 
 DEPLOY = os.path.join(os.path.dirname(__file__), "..", "..", "deploy")
 
@@ -15,6 +22,63 @@ class Units(unittest.TestCase):
             ran = re.findall(r"^Exec([A-Za-z]+)=/usr/local/sbin/rooms-admin (.*)$", text, re.M)
             self.assertEqual(ran, [("Start", f"{verb} --room %i"),
                                    ("StopPost", "groups --after --room %i")], unit)
+
+
+class Night(Folder):
+    """The program is a script; the room has one page."""
+
+    def run_of(self, script: str, *lacks: tuple[str, str]) -> night.Night:
+        place = f"{self.home}/program"
+        with open(place, "w", encoding="ascii") as made:
+            made.write(f"#!/bin/sh\n{script}\n")
+        os.chmod(place, 0o755)
+        os.chmod(self.home, 0o755)
+        self.asked: list[str] = []
+
+        def asks(_room: object, _source: object, kept: str) -> list[str]:
+            self.asked.append(kept)
+            return []
+        beside = night.Beside(lambda place, version: [], lambda room: ("", False),
+                              [(name, asks, text) for name, text in lacks])
+        run = night.Night(self.settings("office", PROGRAM=place), beside)
+        run.kept = self.backup("2026-11-30.040000", 1)
+        run.copied, run.memory = f"{self.home}/copy", 100
+        with open(run.copied, "w", encoding="ascii"):
+            pass
+        return run
+
+    def test_a_review_without_end_keeps_nothing_from_being_done(self) -> None:
+        """Who manages some folder decides how much there is to be compared."""
+        run = self.run_of("test $1 = verify || test $1 = audit || test $1 = dump || exec sleep 99")
+        done: list[str] = []
+
+        def does(name: str) -> object:
+            return patch.object(run, name, lambda *_: done.append(name))
+        with contextlib.ExitStack() as patched:
+            for name in ("copy_room", "keep_copy", "write_machine", "remove_old"):
+                patched.enter_context(does(name))  # type: ignore[arg-type]
+            for module, what in ((program, "SECONDS"), (backups, "begin")):
+                patched.enter_context(patch.object(
+                    module, what, 1 if what == "SECONDS" else lambda _: None))
+            patched.enter_context(patch.object(dates, "keep", lambda *_: ""))
+            patched.enter_context(patch.object(run.dates, "look", lambda *_: ""))
+            patched.enter_context(contextlib.redirect_stderr(io.StringIO()))
+            run.part, run.date = f"{run.kept}.part", "2026-11-30.040001"
+            run.back_up(contextlib.ExitStack())
+        self.assertEqual(done, ["copy_room", "keep_copy", "write_machine", "remove_old"])
+        self.assertEqual(len(run.failures), 1, run.failures)
+        self.assertIn(": it took more than 0 minutes; the backup ", run.failures[0])
+        self.assertEqual(set(os.listdir(run.kept)) & {*texts.PRINTED, "unfinished"},
+                         {texts.RECORDS, texts.LISTS})
+
+    def test_what_isnt_done_without_a_text_is_told(self) -> None:
+        """A text may lack for as long as a user wants, such as by folders inside one another."""
+        run = self.run_of("", (texts.LISTS, "no access ended"), (texts.REVIEW, "no places"))
+        with open(f"{run.kept}/{texts.REVIEW}", "w", encoding="ascii"), \
+                contextlib.redirect_stderr(io.StringIO()):
+            run.for_users()
+        self.assertEqual((self.asked, run.failures),
+                         ([run.kept], ["there is no lists.txt: no access ended"]))
 
 
 if __name__ == "__main__":

@@ -47,7 +47,7 @@ fi
 did() { sed -n 's/^[0-9]* \(systemctl\|rooms\) \([a-z-]*\).*/\2/p' steps | tr '\n' ' '; }
 same_words() { if [ "$2" = "$3" ]; then pass; else fail "$1" "'$2' instead of '$3'"; fi; }
 same_words 'the server goes on before the copy is read' "$(did)" \
-  "is-active is-active verify audit dump review ${tar:+--version }is-active show show show "
+  "is-active is-active verify audit dump ${tar:+--version }review is-active show show show "
 holds 'the room itself is not opened' [ "$(grep -c ' rooms .*office/F' steps)" = 0 ]
 
 # Where the settings say so, the review is put into the room once the server is back.

@@ -27,7 +27,8 @@ class Beside:
     the site's certificate, and what users see that is made of a text."""
     save_machine: Callable[[str, str], list[str]]
     see_certificate: Callable[[Room], tuple[str, bool]]
-    for_users: list[tuple[str, Callable[[Room, IO[bytes], str], list[str]]]]
+    # Of which text, and what is so without it.
+    for_users: list[tuple[str, Callable[[Room, IO[bytes], str], list[str]], str]]
 
 
 class Night:
@@ -102,12 +103,14 @@ class Night:
         before = backups.look(self.room)
         self.keep_copy(owned, 1 + max((one.number for one in before.backups), default=0))
         self.tell_before(before)
-        for name, (word, *rest) in texts.PRINTED.items():
-            self.write_text(name, word, rest)
+        for name in (texts.RECORDS, texts.LISTS):
+            self.write_text(name, *texts.PRINTED[name])
         self.failed(self.dates.look(self.copied, self.copied_at, self.memory))
         self.failed(dates.keep(self.room, self.kept))
         self.write_machine()
         self.remove_old(before)
+        # It has as much to do as users like: all that others rely on is done by then.
+        self.write_text(texts.REVIEW, *texts.PRINTED[texts.REVIEW])
 
     def tell_before(self, before: Found) -> None:
         for one in before.backups[-1:]:
@@ -157,13 +160,13 @@ class Night:
             mail.notify(self.room.mail, f"{self.room.unit} on {os.uname().nodename} is stopped for "
                         "its copies", [text], "warning")
 
-    def on_copy(self, word: str, rest: list[str], into: int | None = None, most: int = 0
-                ) -> tuple[int, bytes, str]:
+    def on_copy(self, word: str, rest: list[str], into: int | None = None, most: int = 0,
+                seconds: float = 0) -> tuple[int, bytes, str]:
         """No run of the program on the copy gets more memory than the settings say."""
         if not self.memory:
             self.memory = program.enough(self.room, self.copied)
         status, out, text = program.on_copy(self.room, self.copied, [word, *rest], self.memory,
-                                            into, most=most)
+                                            into, most=most, seconds=seconds)
         if "fault: memory" in text:
             text += f", with MEMORY={self.memory}"
         return status, out, text
@@ -223,7 +226,7 @@ class Night:
         for one in gone:
             self.failed(tidying.remove(self.room, one.place, "has more in it than a backup"))
 
-    def write_text(self, name: str, word: str, rest: list[str]) -> None:
+    def write_text(self, name: str, word: str, *rest: str) -> None:
         """A text that could not be made whole is not there."""
         fresh = f"{self.kept}/unfinished"
         try:
@@ -233,7 +236,8 @@ class Night:
                         f"sound, but it has no {name}")
             return
         try:
-            status, _, text = self.on_copy(word, rest, out, texts.most_of(name))
+            status, _, text = self.on_copy(word, [*rest], out, texts.most_of(name),
+                                           program.SECONDS)
             if status == 0:
                 os.fsync(out)
                 os.rename(fresh, f"{self.kept}/{name}")
@@ -313,8 +317,11 @@ class Night:
     def for_users(self) -> None:
         """What the web interface shows beside the room, and accesses that have an end. The disk of
         backups has given the text before anybody else has to wait."""
-        for name, write in self.beside.for_users:
-            if not self.kept or not os.path.exists(f"{self.kept}/{name}"):
+        for name, write, lacks in self.beside.for_users:
+            if not self.kept:
+                continue
+            if not os.path.exists(f"{self.kept}/{name}"):
+                self.failed(f"there is no {name}: {lacks}")
                 continue
             try:
                 with texts.beside(self.room, self.kept, name) as source:

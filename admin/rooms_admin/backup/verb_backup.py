@@ -42,8 +42,9 @@ def run(given: argparse.Namespace) -> int:
         # One run at a time.
         with locks.lock(f"{room.unit}.nightly", 10):
             return night.Night(room, night.Beside(machine_tar.save, certificates.to_be_told, [
-                (texts.LISTS, offered.nightly), (texts.REVIEW, further_down.nightly),
-                (texts.LISTS, ended.nightly)])).run()
+                (texts.LISTS, offered.nightly, "names to choose from stay those of before"),
+                (texts.REVIEW, further_down.nightly, "'Shared with you' stays that of before"),
+                (texts.LISTS, ended.nightly, "no access ended that is over")])).run()
     except Refused as stop:
         # A run that can't begin is reported like one that fails.
         night.tell(room, [str(stop)])

@@ -5,6 +5,7 @@ import pwd
 import resource
 import select
 import tempfile
+import time
 from collections.abc import Callable, Iterator
 from contextlib import contextmanager
 
@@ -153,8 +154,12 @@ _PIPE = 1 << 20
 MOST = 1 << 30
 
 
+# Seconds in which it has written what a night keeps of a copy: of a large room it takes some.
+SECONDS = 20 * 60
+
+
 class _TooMuch(Exception):
-    """It writes without end."""
+    """It writes without end, or is at work without end."""
 
 
 def _bounded(take: Callable[[bytes], object], most: int) -> Callable[[bytes], None]:
@@ -164,23 +169,28 @@ def _bounded(take: Callable[[bytes], object], most: int) -> Callable[[bytes], No
         nonlocal left
         left -= len(part)
         if left < 0:
-            raise _TooMuch
+            raise _TooMuch(f"it wrote more than {most >> 20} MB")
         take(part)
     return taking
 
 
-def _pump(child: commands.Child, take: Callable[[bytes], object]) -> bytes:
+def _pump(child: commands.Child, take: Callable[[bytes], object], seconds: float) -> bytes:
     """What the child writes gets to a file that stays root's: the child has a pipe. Returns what it
-    said. It is over when the child is, whoever else has the pipe by then."""
+    said. It is over when the child is, whoever else has the pipe by then; 0 seconds are as many as
+    it takes."""
     assert child.stdout and child.stderr
     out, err = child.stdout.fileno(), child.stderr.fileno()
     said, waits, left = b"", {out, err}, -1
+    ends = time.monotonic() + seconds if seconds else None
     with safe.opened(os.pidfd_open(child.pid)) as ended:
         while waits and left:
             if left < 0 and select.select([ended], [], [], 0)[0]:
                 left = _PIPE
+            still = max(0, ends - time.monotonic()) if ends else None
+            if left < 0 and still == 0:
+                raise _TooMuch(f"it took more than {seconds / 60:.0f} minutes")
             ready = select.select([*waits, *([ended] if left < 0 else [])], [], [],
-                                  None if left < 0 else 0)[0]
+                                  still if left < 0 else 0)[0]
             if left > 0 and not ready:
                 break
             for one in waits & set(ready):
@@ -211,11 +221,13 @@ def _end_left(user: int) -> None:
 
 
 def on_copy(room: Room, copied: str, words: list[str | bytes], megabytes: int = 0,
-            into: int | None = None, stdin: bytes = b"", most: int = 0) -> tuple[int, bytes, str]:
+            into: int | None = None, stdin: bytes = b"", most: int = 0, seconds: float = 0
+            ) -> tuple[int, bytes, str]:
     """A subcommand on a private copy, as the user of copies: its first word, the copy, the others.
     What is written goes to a file, or is returned; `most` is how many bytes it may have, where
-    those are fewer than of others."""
-    return _on_copy(room, copied, [room.program, words[0]], words[1:], megabytes, into, stdin, most)
+    those are fewer than of others; `seconds` is for how long it may be at work, if not for ever."""
+    return _on_copy(room, copied, [room.program, words[0]], words[1:], megabytes, into, stdin, most,
+                    seconds)
 
 
 def helper_on_copy(room: Room, copied: str, helper: list[str | bytes], words: list[str | bytes],
@@ -225,7 +237,7 @@ def helper_on_copy(room: Room, copied: str, helper: list[str | bytes], words: li
 
 
 def _on_copy(room: Room, copied: str, before: list[str | bytes], words: list[str | bytes],
-             megabytes: int, into: int | None, stdin: bytes, most: int = 0
+             megabytes: int, into: int | None, stdin: bytes, most: int = 0, seconds: float = 0
              ) -> tuple[int, bytes, str]:
     """What is written before the copy, whose folder is entered, and behind it."""
     user, _ = user_of_copies(room)
@@ -249,10 +261,10 @@ def _on_copy(room: Room, copied: str, before: list[str | bytes], words: list[str
                 child.stdin.close()
             except BrokenPipeError:
                 pass
-            said = _pump(child, take)
-        except _TooMuch:
+            said = _pump(child, take, seconds)
+        except _TooMuch as much:
             _end(child, who)
-            parts, said = [], f"it wrote more than {most >> 20} MB".encode()
+            parts, said = [], str(much).encode()
         except BaseException:
             _end(child, who)
             raise
