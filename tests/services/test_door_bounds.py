@@ -247,8 +247,9 @@ class Rows(Over):
         self.room.objects |= {(f"{number:03}",): None for number in range(200)}
         self.room.objects |= {("f", f"{number:03}"): None for number in range(200)}
         self.room.objects["f",] = None
+        # (what is removed is looked through once more where it stands aside)
         for method, target, wanted in (("GET", "/door/find/?zzz", 402),
-                                       ("DELETE", "/drive/f", 201)):
+                                       ("DELETE", "/drive/f", 402)):
             self.room.seen.clear()
             self.room.connections.clear()
             self.assertIn(self.ask(method, target)[0], (200, 204))
