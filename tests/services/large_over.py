@@ -67,6 +67,10 @@ class Large(Over):
     def put_list(self, path: str, text: str, user: str = "alice") -> None:
         self.judged.does(user, "PUT", f"/dacl{path}", "\n".join(text.split()).encode())
 
+    def answers_in(self, seconds: float) -> None:
+        """Each answer of the room takes so long, by the door's clock."""
+        self.door.room.clock = lambda: seconds * sum(self.judged.connections)
+
     def put(self, data: bytes, user: str = "pat", path: str = "p/d", match: str = "") -> int:
         fields = {"If-Match": match} if match else {"If-None-Match": "*"}
         status, told, body = self.ask("PUT", f"/door/doc/{path}", data, user, **fields)

@@ -10,7 +10,7 @@ from judged_room import ALL
 from large_over import DROP, MANAGE, SMALL, Large, Tries, data_of
 from rooms_admin.room import in_parts
 from rooms_services.door.large import held, replacing
-from rooms_services.room import large, turns
+from rooms_services.room import turns
 
 
 class Laid(Large):
@@ -181,16 +181,16 @@ class Many(Large):
 
     def test_others_ask_in_between(self) -> None:
         """Also of what is removed with its folder's names, and of a small document."""
-        with mock.patch.object(large, "HELD", 5):
-            tries: Tries = (
-                ("PUT", "/door/doc/p/d", "other", {"If_Match": "*"}),
-                ("PUT", "/drive/p/d", "other", {}),
-                ("POST", "/door/remove/p", '["d"]', {"If_Match": "*"}))
-            for method, target, body, fields in tries:
-                self.judged.connections.clear()
-                status, _, _ = self.ask(method, target, body, "pat", **fields)
-                self.assertIn(status, (200, 204), target)
-                self.assertLess(max(self.judged.connections), 24, target)
+        self.answers_in(0.05)
+        tries: Tries = (
+            ("PUT", "/door/doc/p/d", "other", {"If_Match": "*"}),
+            ("PUT", "/drive/p/d", "other", {}),
+            ("POST", "/door/remove/p", '["d"]', {"If_Match": "*"}))
+        for method, target, body, fields in tries:
+            self.judged.connections.clear()
+            status, _, _ = self.ask(method, target, body, "pat", **fields)
+            self.assertIn(status, (200, 204), target)
+            self.assertLess(max(self.judged.connections), 18, target)
 
 
 class Beginning(Large):

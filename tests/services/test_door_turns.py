@@ -1,17 +1,19 @@
 """Who is answered when, over a room in memory: one that is away or hangs, many requests at once."""
 import contextlib
 import io
+import json
 import socket
 import threading
 import time
 import unittest
 from unittest import mock
 
-from over import Local, Over
+from over import Drive, Local, Over
 from rooms_services.door import serve
 from rooms_services.door.folders import matched
 from rooms_services.room import room, turns
 from rooms_services.room.answers import Stop
+from rooms_services.room.paths import names_of_body
 
 
 class Busy(Over):
@@ -208,6 +210,70 @@ class Busy(Over):
             users._all["a"] = turns.RUNNING + turns.WAITING
             with users.turn("a"):
                 pass
+
+
+class Short(Drive):
+    """Who asks one thing after the other while nobody comes between keeps others waiting."""
+
+    def test_very_many_conditions(self) -> None:
+        """They end before the change, and so soon that a hundred slow answers don't add up."""
+        for number in range(100):
+            self.room.objects[f"d{number}",] = b"old"
+        condition = "".join(f'</drive/d{number}> (["0"]) ' for number in range(100))
+        for seconds, wanted in ((0.001, 412), (0.2, 503)):
+            self.door.room.clock = lambda: seconds * sum(self.room.connections)
+            self.room.connections.clear()
+            status, told, _ = self.dav("PUT", "/d0", "new", If=condition)
+            self.assertEqual(status, wanted)
+        self.assertEqual(told["Retry-After"], "10")
+        self.assertLess(max(self.room.connections), 30)
+        self.assertEqual(self.room.objects["d0",], b"old")
+
+    def test_what_has_begun_is_done(self) -> None:
+        """And until the first answer the room may have answered others."""
+        self.room.make(d=b"old")
+        ask, said = self.door.room.ask, room.about("PUT", "doc", ("d",), body=b"new")
+        times = [0.0]
+        self.door.room.clock = lambda: times[0]
+        with self.door.room.talk("alice") as talk:
+            times[0] = 100.0
+            self.assertFalse(talk.rest())
+            self.assertEqual(talk.ask(said).status, 204)
+            times[0] = 200.0
+            self.assertEqual(talk.ask(room.about("GET", "doc", ("d",))).body, b"new")
+            self.assertTrue(talk.rest())
+        self.assertEqual(ask("bob", room.about("GET", "doc", ("d",))).status, 200)
+
+    def test_bodies(self) -> None:
+        """What is read in one piece is short: no other thread runs meanwhile."""
+        lengths: list[int] = []
+        loads = json.loads
+
+        def read(text: str | bytes, *rest: object) -> object:
+            lengths.append(len(text))
+            return loads(text)
+        self.room.make(f=None, f__d=b"x", d=b'{"bytes":1,"parts":[' + b"[]," * 340_000 + b"[]]}")
+        body = b"[" + b"[]," * 340_000 + b"[]]"
+        with mock.patch("json.loads", read):
+            for method, target, wanted in (
+                    ("POST", "/door/goes/f", 400), ("POST", "/door/remove/f", 400),
+                    ("POST", "/door/move/f/d", 400), ("GET", "/door/doc/d", 200)):
+                self.assertEqual(self.ask(method, target, body, If_Match="*")[0], wanted, target)
+        self.assertLess(max(lengths, default=0), 100_000)
+
+    def test_lists_of_names(self) -> None:
+        wanted = {"a", "b\u00e9 \"c", "\U0001f600" * 63, "x" * 255}
+        for text in (json.dumps([*wanted]), json.dumps([*wanted], indent=1) + "\r\n ",
+                     json.dumps([*wanted, "a"], ensure_ascii=False)):
+            self.assertEqual(names_of_body(text.encode()), wanted)
+        for text in ("", "[]", "[", "]", "{}", "1", "null", '"a"', '["a"', '["a",', '["a",]', "[a]",
+                     '["a"]]', '["a"] 1', '["a" "b"]', '{"a"]', "[1]", '[["a"]]', '[""]', '["a/b"]',
+                     '["/a"]', '["."]', '[".."]', '["\\x"]', '["\\ud800"]', '["a\n"]',
+                     json.dumps(["x" * 256]), json.dumps(["a" * 2000])):
+            with self.assertRaises(Stop, msg=text) as stopped:
+                names_of_body(text.encode())
+            self.assertEqual(stopped.exception.status, 400)
+        self.assertRaises(Stop, names_of_body, b'["\xff"]')
 
 
 if __name__ == "__main__":

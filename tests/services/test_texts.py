@@ -177,6 +177,9 @@ class Folding(unittest.TestCase):
         self.assertEqual(folding.around("\ufdfa" * 3000 + "ziel", "ziel")[1], "ziel")
         self.assertEqual(folding.around("Straße", "as"), ["Str", "aß", "e"])
         self.assertEqual(folding.around("nothing", "zz"), [])
+        # Long ones are folded piece by piece.
+        for text in ("\ufdfa\u00df" * 12_000, "e\u0301" * 10_001):
+            self.assertEqual(folding.folded(text), "".join(map(folding.folded, text)))
         # Of marks that somebody has piled up no more than a few lines are shown.
         for text in ("xy" + "\u0301" * 300_000, "x" + "\u0301" * 300_000 + "y"):
             began = time.process_time()

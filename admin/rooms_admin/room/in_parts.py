@@ -20,6 +20,9 @@ LENGTH = len(MARK) + 4
 _PART = re.compile(f"(.+){MARK}(?!0000)[0-9]{{4}}", re.DOTALL)
 _SIGN = "a document in parts"
 _DIGEST = re.compile(r"[0-9a-f]{64}")
+_ONE = r'\[[0-9]{1,4},"[0-9a-f]{64}"\]'
+_FORM = re.compile((r'\{"bytes":[0-9]{1,13},"parts":\[' f'{_ONE}(?:,{_ONE})*' r'\],"rooms":"'
+                    f'{_SIGN}' r'","sha256":"[0-9a-f]{64}"\}').encode())
 
 
 def whole_of(name: str) -> str:
@@ -80,7 +83,8 @@ class Manifest(NamedTuple):
 def read(body: bytes) -> Manifest | None:
     """None of anything else, such as what a user wrote. It has one form, so that no two lists of
     parts are the same."""
-    if not body.startswith(b'{"bytes":'):
+    # (other JSON would take long to read, in one piece, in which no other thread runs)
+    if not _FORM.fullmatch(body):
         return None
     try:
         told = json.loads(body)

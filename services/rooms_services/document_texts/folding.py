@@ -11,10 +11,14 @@ SHORTEST, MOST_WORDS = 2, 8
 # of marks may belong to a letter.
 BEFORE, BEHIND, WORD = 60, 100, 1000
 _BLANKS = re.compile(r"[\s\x00-\x1f\x7f]+")
-# A word that is parted at a line's end. What follows a 'Haupt-' is another word.
-_PARTED = re.compile(r"(?<=[^\W\d_])[-\u2010]\n\s*(?!(?:und|oder|bzw|sowie|and|or|et|ou)\b)"
-                     r"(?=[a-z\u00df-\u00ff])")
+# A word that is parted at a line's end. What follows a 'Haupt-' is another word. (It is sought by
+# its hyphen, which most texts have less often than letters.)
+_PARTED = re.compile(r"[-\u2010]\n(?<=[^\W\d_][-\u2010]\n)\s*"
+                     r"(?!(?:und|oder|bzw|sowie|and|or|et|ou)\b)(?=[a-z\u00df-\u00ff])")
 _STEP = 1000
+# Of so many signs at once: others have turns of the processor in between, also who has the room for
+# themselves.
+_PIECE = 10_000
 # Of so many signs it is remembered what they become: all that there are take 160 MB.
 REMEMBERED = 20_000
 
@@ -37,12 +41,17 @@ _TABLE = _Table()
 
 
 def folded(text: str) -> str:
-    return text.translate(_TABLE)
+    if len(text) <= _PIECE:
+        return text.translate(_TABLE)
+    return "".join(text[place:place + _PIECE].translate(_TABLE)
+                   for place in range(0, len(text), _PIECE))
 
 
 def plain(text: str) -> str:
-    """Without soft hyphens, with parted words joined, and single blanks."""
-    return _BLANKS.sub(" ", _PARTED.sub("", text.replace("\u00ad", ""))).strip()
+    """Without soft hyphens, with parted words joined, and single blanks. (A function says what each
+    becomes, so that others have turns of the processor.)"""
+    joined = _PARTED.sub(lambda _: "", text.replace("\u00ad", ""))
+    return _BLANKS.sub(lambda _: " ", joined).strip()
 
 
 def words_of(text: str) -> list[str]:

@@ -24,6 +24,11 @@ from rooms_services.door.serve import serve  # noqa: E402
 from rooms_services.document_texts import feed  # noqa: E402
 
 
+# Of the processor each thread that works has so many seconds, before another one that waits for it:
+# who has the room for themselves waits so long for each of its answers.
+SWITCH = 0.0005
+
+
 class _Words(argparse.ArgumentParser):
     def error(self, message: str) -> NoReturn:
         self.exit(2, f"rooms-door: bad arguments: {message}\n")
@@ -68,6 +73,7 @@ def _given() -> argparse.Namespace:
 
 def main() -> int:
     output.open_all()
+    sys.setswitchinterval(SWITCH)
     given = _given()
     try:
         kept = given.kept or os.path.dirname(given.listen)

@@ -7,14 +7,12 @@ from rooms_admin.room.in_parts import Manifest
 
 from .answers import Stop
 from .paths import LONGEST_NAME, LONGEST_PATH, Names, shown
-from .room import DEEP, Ask, Reply, Room, about, listed
+from .room import Ask, Reply, Room, about, listed
 
 Asks = Callable[[Ask], Reply]
-# Lets others ask the room, where what belongs together is asked over one connection.
-Rest = Callable[[], None]
-# After so many: more than a document of 200 MB has. Somebody may have made very many by hand, or
-# far down, where each takes the room as long as several others.
-HELD = 512
+# Lets others ask the room, where what belongs together is asked over one connection and they have
+# waited a while.
+Rest = Callable[[], object]
 
 
 def part(names: Names, number: int) -> Names:
@@ -46,7 +44,7 @@ def is_there(ask: Asks, names: Names) -> bool:
 def count(ask: Asks, names: Names, rest: Rest | None = None) -> int:
     """How many parts lie beside it, numbered from 1 on."""
     number = 0
-    for number in resting(range(1, in_parts.MOST + 1), rest, names):
+    for number in resting(range(1, in_parts.MOST + 1), rest):
         if not names or not is_there(ask, part(names, number)):
             return number - 1
     return number
@@ -77,11 +75,10 @@ def is_document(ask: Asks, names: Names) -> bool:
     return ask(about("GET", "folder", names)._replace(is_bare=True)).why == "wrong-kind"
 
 
-def resting(numbers: Iterable[int], rest: Rest | None, names: Names) -> Iterator[int]:
-    held = max(1, HELD // (1 + len(names) // DEEP))
-    for place, number in enumerate(numbers, 1):
+def resting(numbers: Iterable[int], rest: Rest | None) -> Iterator[int]:
+    for number in numbers:
         yield number
-        if rest and place % held == 0:
+        if rest:
             rest()
 
 

@@ -4,6 +4,7 @@ A target is decoded once, name by name, and what the room gets is encoded anew f
 the door and the room never understand a path differently, whatever escapes the client wrote."""
 import json
 import re
+from collections.abc import Iterator
 from functools import lru_cache
 from urllib.parse import quote, unquote_to_bytes
 
@@ -12,6 +13,11 @@ from .answers import Stop
 Names = tuple[str, ...]
 _UNSAFE = re.compile(r"[^A-Za-z0-9_.~-]+")
 LONGEST_NAME, LONGEST_PATH = 255, 4096
+# How long a body is that is read at once: a path, of which each sign is escaped, takes no more.
+LONGEST_BODY = 65_536
+_BLANK = " \t\n\r"
+# A name in a list of them, and what stands behind it.
+_LISTED = re.compile(r'[ \t\n\r]*("(?:[^"\\\x00-\x1f]|\\.){1,1530}")[ \t\n\r]*([,\]])')
 
 
 def _decoded(part: str) -> bytes:
@@ -54,6 +60,8 @@ def names_of_path(path: object) -> Names:
 def names_of_move(body: bytes) -> Names:
     """Where to."""
     try:
+        if len(body) > LONGEST_BODY:
+            raise ValueError
         return names_of_path(json.loads(body)["to"])
     except (ValueError, KeyError, TypeError, RecursionError):
         raise Stop(400, "bad-body") from None
@@ -70,13 +78,22 @@ def chosen_in(query: str) -> frozenset[str]:
 def names_of_body(body: bytes) -> frozenset[str]:
     """A list of names in a folder."""
     try:
-        told = json.loads(body)
-        found = [names_of_path("/" + name) for name in told] if isinstance(told, list) else []
-    except (ValueError, TypeError, RecursionError):
-        found = []
-    if not found or any(len(names) != 1 for names in found):
-        raise Stop(400, "bad-body", "a list of names in the folder")
-    return frozenset(name for name, in found)
+        return frozenset(_names_listed(body.decode().strip(_BLANK)))
+    except (ValueError, TypeError):
+        raise Stop(400, "bad-body", "a list of names in the folder") from None
+
+
+def _names_listed(text: str) -> Iterator[str]:
+    """Name by name, up to what is none. What reads all at once gives nobody else a turn of the
+    processor meanwhile, who may have the room for themselves."""
+    place = 1
+    while place < len(text) or place == 1:
+        found = _LISTED.match(text, place)
+        if not found or text[0] != "[" or (found[2] == "]") != (found.end() == len(text)):
+            raise ValueError
+        name, = names_of_path("/" + json.loads(found[1]))
+        yield name
+        place = found.end()
 
 
 @lru_cache(maxsize=1000)

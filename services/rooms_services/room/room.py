@@ -18,7 +18,7 @@ from rooms_admin.room import waits
 
 from .answers import JSON, Answer, Stop
 from .paths import Names, escaped
-from .turns import PATIENCE, Held, InTurn
+from .turns import PATIENCE, Held, InTurn, busy
 
 # How many questions one connection has at most. All of a row are sent before an answer is read, so
 # they have to fit into a socket's buffer: else the room could wait with an answer for a door that
@@ -41,6 +41,9 @@ MOST_CHANGED, CHANGED_PACE = 100_000, 10.0
 # Of so many users it is known.
 MOST_USERS = 10_000
 CONNECT_SECONDS = 10.0
+# How long one who asks over one connection has the room from its first answer on, before others are
+# answered; and how long where nobody may come between, and nothing is changed yet.
+RESTS, ENDS = 0.25, 5.0
 USER = re.compile(r"[A-Za-z0-9._+$\\-]{1,64}(@[A-Za-z0-9.-]{1,64})?")
 _HEAD = re.compile(rb"HTTP/1\.1 ([0-9]{3})[^\r\n]*\r\n(?:(?!Content-Length:)[^\r\n]+\r\n)*"
                    rb"(?:Content-Length: ([0-9]{1,10})\r\n)?(?:[^\r\n]+\r\n)*\r\n")
@@ -248,10 +251,13 @@ class Talk:
         self._at: socket.socket | None = None
         # How many bytes the room has answered.
         self.taken = 0
+        self._has_changed = False
         self._open()
 
     def _open(self) -> None:
         self._room.take()
+        # (until the first answer the room may be answering others)
+        self._since = math.inf
         try:
             self._at = self._room.connected()
             self._at.settimeout(self._room.seconds)
@@ -268,14 +274,24 @@ class Talk:
             self._at = None
             self._room.give()
 
-    def rest(self) -> None:
-        """Others are answered before the next question, where very many belong together."""
+    def _held(self) -> float:
+        return self._room.clock() - self._since
+
+    def rest(self) -> bool:
+        """Others are answered before the next question, if they have waited a while: however few
+        there were, each may take long. Says whether they are."""
+        if self._held() < RESTS:
+            return False
         self.close()
         self._open()
+        return True
 
     def ask(self, ask: Ask) -> Reply:
         if ask.method == "GET":
+            if self._held() > ENDS and not self._has_changed:
+                raise busy()
             return self._asked(ask)
+        self._has_changed = True
         self._room.changes.take(self._user)
         note = self._room.note
         if note is None:
@@ -301,6 +317,7 @@ class Talk:
             if name.lower() == b"content-length":
                 length = int(value)
         self.taken += length
+        self._since = min(self._since, self._room.clock())
         status = int(line[9:12])
         return Reply(status, self._body(length, ask.is_bare and status == 200))
 
@@ -398,6 +415,7 @@ class Room:
         self.changes = Changes()
         self.held = Held()
         self.note = note
+        self.clock = time.monotonic
         self._turn = InTurn()
 
     def take(self) -> None:

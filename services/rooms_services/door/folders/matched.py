@@ -33,6 +33,17 @@ class Condition:
     tags: frozenset[str]
 
 
+class Against(Stop):
+    """The condition doesn't hold, or the room said why not."""
+
+    def __init__(self, answer: Answer) -> None:
+        super().__init__(answer.status, "")
+        self._answer = answer
+
+    def answer(self, to_people: bool) -> Answer:
+        return self._answer
+
+
 class Changed(Exception):
     """It isn't what was seen. Who could have changed it is asked once the room is free again."""
 
@@ -136,10 +147,16 @@ def replace(room: Room, user: str, route: str, names: Names, body: bytes, condit
             put: Put) -> Answer:
     """A list, which `put` sends."""
     with room.talk(user) as talk:
-        stopped = against(talk, route, names, condition)
-        if stopped is not None:
-            return stopped
-        reply = put(talk.ask, route, names, body, talk.rest)
+        def look() -> None:
+            stopped = against(talk, route, names, condition)
+            if stopped is not None:
+                raise Against(stopped)
+
+        def rest() -> None:
+            if talk.rest():
+                look()
+        look()
+        reply = put(talk.ask, route, names, body, rest)
         if reply.status != 204:
             return reply.answer()
         # It has by now what its folder passes down, too.

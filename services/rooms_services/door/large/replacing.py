@@ -21,7 +21,7 @@ from ...room.paths import Names, shown
 from ...room.room import Ask, Reply, Room, Talk, about
 from ...room.space import Space
 from ...room.tags import tag_of
-from ..folders.matched import Condition, against, told
+from ..folders.matched import Against, Condition, against, told
 from ..folders.would import Would
 from .held import alone
 
@@ -158,7 +158,7 @@ class Writing:
         have been done."""
         with self.room.talk(self.user) as talk:
             is_whole = all(large.is_there(talk.ask, large.part(self.names, number)) for number
-                           in large.resting(sorted(now.numbers), talk.rest, self.names))
+                           in large.resting(sorted(now.numbers), talk.rest))
             self.look(talk)
             if not is_whole:
                 raise Stop(503, "busy", "somebody removed a part of it meanwhile; nothing was done",
@@ -280,7 +280,7 @@ class Writing:
 def empty(ask: Asks, names: Names, numbers: Iterable[int], rest: Rest | None = None) -> None:
     """What was replaced is gone. Whoever may write the document may do that; what has no more than
     the name of a part stays."""
-    for number in large.resting(sorted(numbers), rest, names):
+    for number in large.resting(sorted(numbers), rest):
         place = large.part(names, number)
         if ask(about("GET", "can", place, "w")).rulings().get("w"):
             ask(about("PUT", "doc", place))
@@ -306,17 +306,6 @@ def _used(ask: Asks, names: Names) -> Iterable[int] | None:
     before = ask(about("GET", "doc", names))
     old = in_parts.read(before.body) if before.status == 200 else None
     return old.numbers if old else ()
-
-
-class Against(Stop):
-    """The condition doesn't hold, or the room said why not."""
-
-    def __init__(self, answer: Answer) -> None:
-        super().__init__(answer.status, "")
-        self._answer = answer
-
-    def answer(self, to_people: bool) -> Answer:
-        return self._answer
 
 
 def _look(names: Names, condition: Condition) -> Look:

@@ -38,7 +38,7 @@ def remove(ask: Asks, names: Names, rest: Rest | None = None) -> Reply:
     above = _may_above(ask, names) if count else Reply(404, b"")
     if _may_go(ask, names, above):
         used = _used(ask, names, count)
-        for number in large.resting(_all_of(ask, names, count, used), rest, names):
+        for number in large.resting(_all_of(ask, names, count, used), rest):
             place = large.part(names, number)
             if _may_go(ask, place, above):
                 ask(about("DELETE", "object", place))
@@ -53,7 +53,7 @@ def remove_left(ask: Asks, names: Names, rest: Rest | None = None) -> Reply:
     count = large.count(ask, names, rest)
     if not count or large.is_there(ask, names):
         raise Stop(404, "no-such", "no parts of an upload are left", shown(names))
-    for number in large.resting(_from_the_last(count), rest, names):
+    for number in large.resting(_from_the_last(count), rest):
         reply = ask(about("DELETE", "object", large.part(names, number)))
         if reply.status != 204:
             raise refused(reply, names, number)
@@ -89,8 +89,7 @@ def move(ask: Asks, names: Names, to: Names, rest: Rest | None = None) -> Reply:
     large.refuse_long_name(to)
     used, above = _used(ask, names, count), _may_above(ask, names)
     moved: list[int] = []
-    deeper = max(names, to, key=len)
-    for number in large.resting(chain(_all_of(ask, names, count, used), [0]), rest, deeper):
+    for number in large.resting(chain(_all_of(ask, names, count, used), [0]), rest):
         if number not in used and not _may_go(ask, large.part(names, number), above):
             continue
         reply = ask(moving(_place(names, number), _place(to, number)))
@@ -100,7 +99,7 @@ def move(ask: Asks, names: Names, to: Names, rest: Rest | None = None) -> Reply:
             break
     else:
         return reply
-    for back in large.resting(reversed(moved), rest, deeper):
+    for back in large.resting(reversed(moved), rest):
         ask(moving(large.part(to, back), large.part(names, back)))
     raise _said(reply, names, to, number)
 
@@ -147,7 +146,7 @@ def set_at_all(ask: Asks, route: str, names: Names, body: bytes, rest: Rest | No
     already, by a request that was killed."""
     right = "o" if route == "attr" else "C"
     if _may(ask, names, right):
-        for number in large.resting(_reached(ask, names, rest), rest, names):
+        for number in large.resting(_reached(ask, names, rest), rest):
             place = large.part(names, number)
             if _may(ask, place, right):
                 reply = ask(about("PUT", route, place, body=body))
