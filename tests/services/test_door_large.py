@@ -14,7 +14,7 @@ from large_over import ADD, DROP, KEEP, MANAGE, READ, SMALL, Large, Tries, data_
 from rooms_admin.room import in_parts
 from rooms_admin.room.in_parts import LARGEST
 from rooms_services.door.large import replacing
-from rooms_services.room import parts
+from rooms_services.room import parts, paths
 
 
 class Whole(Large):
@@ -398,6 +398,27 @@ class Together(Large):
         for body in ("", "{}", "[]", '{"to":1}', '{"to":"x"}', '{"to":"/e/../x"}',
                      '{"to":"/e//x"}'):
             self.assertEqual(self.ask("POST", "/door/move/p/d", body, "pat")[0], 400)
+
+    def test_given_by_a_long_body(self) -> None:
+        """What the room doesn't look at isn't sent to each part."""
+        bodies: list[bytes] = []
+        done = self.judged.answer
+
+        def noted(user: str, method: str, target: str, body: bytes) -> tuple[int, object]:
+            if method == "PUT":
+                bodies.append(body)
+            return done(user, method, target, body)
+        text = '{"owner":"ella","group":"staff","z":"%s"}'
+        tries = ((text % ("a" * 500), 204), (text % ("a" * 800), 400), ('{"owner":"ella"}', 400),
+                 ('{"owner":1,"group":"staff"}', 400), ("[]", 400), ("", 400))
+        with mock.patch.object(self.judged, "answer", noted), \
+                mock.patch.object(paths, "LONGEST_BODY", 700):
+            for body, wanted in tries:
+                bodies.clear()
+                self.assertEqual(self.ask("PUT", "/door/attr/p/d", body, "alice")[0], wanted)
+                self.assertEqual(len(bodies) > 5, wanted == 204)
+                self.assertLess(max(map(len, bodies), default=0), 50)
+        self.assert_as_one()
 
     def test_given_to_somebody(self) -> None:
         body = json.dumps({"owner": "ella", "group": "staff"})

@@ -67,6 +67,18 @@ def names_of_move(body: bytes) -> Names:
         raise Stop(400, "bad-body") from None
 
 
+def attributes_in(body: bytes) -> bytes | None:
+    """Owner and group, written anew as the room reads them; nothing if that can't be done."""
+    try:
+        told = json.loads(body) if len(body) <= LONGEST_BODY else {}
+        found = {name: told[name] for name in ("group", "owner")}
+        if not all(isinstance(text, str) for text in found.values()):
+            return None
+        return json.dumps(found, ensure_ascii=False, separators=(",", ":")).encode()
+    except (ValueError, KeyError, TypeError, RecursionError):
+        return None
+
+
 def chosen_in(query: str) -> frozenset[str]:
     """Names in a folder, each escaped, with & between them."""
     found = [names_in(part) for part in query.split("&")]

@@ -10,7 +10,7 @@ from rooms_admin.room import in_parts
 from ...room import large
 from ...room.answers import Answer, Stop
 from ...room.large import Asks, Rest
-from ...room.paths import Names, shown
+from ...room.paths import Names, attributes_in, shown
 from ...room.room import Ask, Reply, Room, about
 from ..folders import matched
 from ..folders.goes import barrier
@@ -175,8 +175,15 @@ def moved(room: Room, user: str, names: Names, to: Names) -> Answer:
 
 
 def given(room: Room, user: str, names: Names, body: bytes) -> Answer:
+    """There may be very many parts: each gets what was understood of the body, and no more. What
+    else is wrong with it is for the room to say."""
+    understood = attributes_in(body)
     with alone(room, user, names), room.talk(user) as talk:
-        return set_at_all(talk.ask, "attr", names, body, talk.rest).answer()
+        if understood is None and any(_reached(talk.ask, names, talk.rest)):
+            raise Stop(400, "bad-body", "neither owner nor group can be read", shown(names))
+        if understood is None:
+            return talk.ask(about("PUT", "attr", names, body=body)).answer()
+        return set_at_all(talk.ask, "attr", names, understood, talk.rest).answer()
 
 
 def listed(room: Room, would: Would, user: str, route: str, names: Names, body: bytes,
