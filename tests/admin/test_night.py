@@ -3,11 +3,15 @@ import contextlib
 import io
 import os
 import re
+import tempfile
 import unittest
 from unittest.mock import patch
 
+from rooms_admin.cli import report
+from rooms_admin.host import locks, mail
 from rooms_admin.room import program
 from rooms_admin.backup import backups, dates, night, texts
+from rooms_admin.people import ended
 from test_backups import Folder
 
 DEPLOY = os.path.join(os.path.dirname(__file__), "..", "..", "deploy")
@@ -79,6 +83,44 @@ class Night(Folder):
             run.for_users()
         self.assertEqual((self.asked, run.failures),
                          ([run.kept], ["there is no lists.txt: no access ended"]))
+
+
+class Mail(Folder):
+    """Who is told of a unit is sent its newest 40 lines."""
+
+    def test_no_folder_keeps_what_is_said_of_others_out_of_it(self) -> None:
+        def folder(path: str, entries: list[str]) -> str:
+            return "\n".join([f"folder a b {path}", "dacl", "list:", *entries, "sacl", "list:", ""])
+        mine = ["A:fd:eve:rxtcC", "A:g:until.2026-01-01.read.u.eve@alice:"]
+        text = "".join([
+            *(folder(f"/m/{at}", [f"A:g:until.17-{one}@m:" for one in range(10)] + mine)
+              for at in range(100)), folder("/contracts", mine), folder("/z", ["A:g:until.1@m:"])])
+        with tempfile.TemporaryFile() as lists, \
+                contextlib.redirect_stderr(io.StringIO()) as said, \
+                patch.object(mail, "notify") as told, \
+                patch.object(locks, "lock", lambda *_: contextlib.nullcontext()):
+            lists.write(text.encode())
+            lists.seek(0)
+            undone = ended.take_back(self.room, lists, None)
+            lists.seek(0)
+            ended.nightly(self.room, lists, "")
+        for lines in (said.getvalue().splitlines()[-30:], undone[:30], told.call_args.args[2]):
+            self.assertIn("not taken back: /contracts: ", "\n".join(lines))
+        strange = [one for one in undone if one.startswith("not understood: ")]
+        self.assertEqual((len(strange), strange[-1]), (11, "not understood: 991 more"))
+        self.assertIn("not understood: /z: ", strange[1])
+
+    def test_failures_of_a_unit_come_last(self) -> None:
+        run = night.Night(self.room, night.Beside(lambda *_: [], lambda _: ("", False), []))
+        with contextlib.redirect_stderr(io.StringIO()):
+            run.failed("no disk" + "x" * 999)
+        for unit, wanted in (("", []), ("rooms-nightly@office.service", ["no disk" + "x" * 293])):
+            with contextlib.redirect_stderr(io.StringIO()) as said, \
+                    patch.object(night, "tell"), patch.object(report, "ignore_signals"), \
+                    patch.dict(os.environ, ROOMS_UNIT=unit):
+                self.assertEqual(run.finish(), 1)
+            self.assertEqual([one.partition(": ")[2] for one in said.getvalue().splitlines()],
+                             wanted)
 
 
 if __name__ == "__main__":

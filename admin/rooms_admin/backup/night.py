@@ -20,6 +20,9 @@ from ..room.settings import Room
 from ..room.size import NoRoom, Used
 from .backups import Found
 
+# How many failures are said again at the end, and letters of each.
+_AGAIN, _SHOWN = 20, 300
+
 
 @dataclass(frozen=True)
 class Beside:
@@ -349,7 +352,14 @@ class Night:
         self.clean()
         if len(self.failures) > before:
             tell(self.room, self.failures[before:])
+        self.say_again()
         return 1 if self.failures else 0
+
+    def say_again(self) -> None:
+        """Who is told that a unit failed is sent its last lines, and users may cause others: dates
+        that are none, and accesses that couldn't be taken back."""
+        for text in self.failures[-_AGAIN:] if mail.of_unit() else []:
+            say(text[:_SHOWN])
 
     def clean(self) -> None:
         if self.part and os.path.isdir(self.part):

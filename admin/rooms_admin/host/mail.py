@@ -23,10 +23,15 @@ def deliver(to: str, subject: str, lines: list[str]) -> bool:
     return _hand(["mail", "-s", subject, to], text)
 
 
+def of_unit() -> str:
+    """The unit that this process is of, if it is of one."""
+    return os.environ.get("ROOMS_UNIT", "")
+
+
 def notify(to: str, subject: str, lines: list[str], level: str = "err") -> None:
     """By mail if possible, otherwise to the system's log. Standard error has it already, which is
     the log of a unit: one that fails has it sent by OnFailure=, and a warning by the same unit."""
-    if unit := os.environ.get("ROOMS_UNIT"):
+    if unit := of_unit():
         if level != "err" and to:
             warn(unit)
         return

@@ -67,8 +67,7 @@ class ComingBack:
         task = _OfCopy(self.room, self.dry, taken.copied)
         task.all(objects())
         self.lines += task.done
-        for line in task.undone[:ended.SAID]:
-            say(line)
+        task.say()
         if self.last:
             change = joining.asked(self.last.members, members, self.last.members - members)
             if not change.is_none:

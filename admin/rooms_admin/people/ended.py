@@ -3,10 +3,10 @@ import datetime
 import os
 import time
 from collections import Counter
-from collections.abc import Iterable
+from collections.abc import Callable, Iterable
 from contextlib import ExitStack
 from dataclasses import dataclass, field
-from typing import IO
+from typing import IO, TypeVar
 
 from ..host import locks, mail
 from ..room import names, program, server
@@ -21,8 +21,9 @@ NEXT = "the next run goes on"
 # What was taken back doesn't come back. Where the clock is far from the last backup that there was
 # before, it is only believed that a day has passed.
 A_DAY = datetime.timedelta(1)
-# How many lines a mail has, and the journal: anybody who manages some folder may cause one.
-MAILED, SAID = 50, 500
+# How many lines a mail has, and the journal: anybody who manages some folder may cause one. Those
+# of what is no date, which let nobody in for longer, are fewer.
+MAILED, SAID, _STRANGE = 50, 500, 10
 # For so many seconds lists are set: whoever manages much could write many dates.
 REST = 20
 # So many folders on the way to an object are told apart when all have their turn.
@@ -50,19 +51,27 @@ def _shown(path: bytes) -> str:
     return text if len(text) <= _SHOWN else f"{text[:_SHOWN]}.."
 
 
-def in_turn(found: list[Due]) -> list[Due]:
-    """The oldest first, and one of each folder in turn, on each level: whoever writes very many
-    dates below one folder keeps none of another from its turn."""
-    order = sorted(found, key=lambda due: min(one.day for one in due.ended))
+_T = TypeVar("_T")
+
+
+def _by_folder(order: list[_T], path_of: Callable[[_T], bytes]) -> list[_T]:
+    """One of each folder in turn, on each level: whoever has very many below one folder keeps none
+    of another from its turn."""
     for level in range(_LEVELS, 0, -1):
         before = Counter[bytes]()
         turns = []
-        for due in order:
-            folder = b"/".join(due.path.split(b"/", level + 1)[:level + 1])
+        for one in order:
+            folder = b"/".join(path_of(one).split(b"/", level + 1)[:level + 1])
             turns.append(before[folder])
             before[folder] += 1
-        order = [due for _, due in sorted(zip(turns, order), key=lambda one: one[0])]
-    return sorted(order, key=lambda due: not due.ends)
+        order = [one for _, one in sorted(zip(turns, order), key=lambda pair: pair[0])]
+    return order
+
+
+def in_turn(found: list[Due]) -> list[Due]:
+    """The oldest first, and one of each folder in turn."""
+    order = sorted(found, key=lambda due: min(one.day for one in due.ended))
+    return sorted(_by_folder(order, lambda due: due.path), key=lambda due: not due.ends)
 
 
 class Run:
@@ -76,11 +85,27 @@ class Run:
         if last and self.clock - last > backups.TRUSTED:
             self.today = last + A_DAY
         self.waiting = 0
-        self.undone: list[str] = []
+        # With the path of what each is about; of all of them it is empty.
+        self._undone: list[tuple[bytes, str]] = []
+        self._strange: list[tuple[bytes, str]] = []
         self.done: list[str] = []
 
+    @property
+    def undone(self) -> list[str]:
+        """The first are told wherever not all are."""
+        strange = _by_folder(self._strange, lambda one: one[0])
+        more = len(strange) - _STRANGE
+        return [text for _, text in [
+            *sorted(_by_folder(self._undone, lambda one: one[0]), key=lambda one: bool(one[0])),
+            *strange[:_STRANGE], *([(b"", f"not understood: {more} more")] if more > 0 else [])]]
+
     def not_done(self, path: bytes, what: str, why: str) -> None:
-        self.undone.append(f"not taken back: {_shown(path)}: {what}: {why}")
+        self._undone.append((path, f"not taken back: {_shown(path)}: {what}: {why}"))
+
+    def say(self) -> None:
+        """The first come last: who is told of a night is sent its last lines."""
+        for line in reversed(self.undone[:SAID]):
+            say(line)
 
     def find(self, objects: Iterable[dump.Object]) -> list[Due]:
         found = []
@@ -90,8 +115,8 @@ class Run:
             for line in filter(is_meant, lines):
                 end = ending(line)
                 if end is None:
-                    self.undone.append(f"not understood: {_shown(one.path)}: {line} is no date, "
-                                       "and whoever manages it removes that")
+                    self._strange.append((one.path, f"not understood: {_shown(one.path)}: {line} "
+                                          "is no date, and whoever manages it removes that"))
                 elif end.due(self.today):
                     self.take(due, one.kind, end)
                 elif end.due(self.clock) and not end.over:
@@ -134,13 +159,14 @@ class Run:
         ahead = self.tell_ahead()
         if found:
             self.take_all(found)
-        self.undone += ahead
+        self._undone += ahead
 
-    def tell_ahead(self) -> list[str]:
+    def tell_ahead(self) -> list[tuple[bytes, str]]:
         if not self.waiting:
             return []
-        return [f"not taken back: {self.waiting} accesses that are over if the clock is right, "
-                f"which says {self.clock}; the last backup before is of {self.last}, and {NEXT}"]
+        return [(b"", f"not taken back: {self.waiting} accesses that are over if the clock is "
+                 f"right, which says {self.clock}; the last backup before is of {self.last}, and "
+                 f"{NEXT}")]
 
     def take_all(self, found: list[Due]) -> None:
         if self.dry:
@@ -152,7 +178,8 @@ class Run:
                 server.left_at_rest(self.room)):
             say(f"no server runs: {len(found)} lists have accesses that are over, and {NEXT}")
             return
-        self.undone.clear()
+        self._undone.clear()
+        self._strange.clear()
         with ExitStack() as after, server.at_rest(self.room):
             # Whoever reads it slowly doesn't hold the server.
             after.callback(self.tell_done)
@@ -166,8 +193,8 @@ class Run:
         for number, due in enumerate(in_turn(found)):
             if time.monotonic() - begun > REST:
                 left = len(found) - number
-                self.undone.append(f"not taken back: {left} lists have accesses that are over: it "
-                                   f"took more than {REST} s, and {NEXT}")
+                self._undone.append((b"", f"not taken back: {left} lists have accesses that are "
+                                     f"over: it took more than {REST} s, and {NEXT}"))
                 break
             self.set(due)
 
@@ -187,8 +214,7 @@ def take_back(room: Room, lists: IO[bytes], last: datetime.date | None, dry: boo
     """By the lists of a backup. Returns what couldn't be taken back, a line each."""
     task = Run(room, dry, last)
     task.all(dump.dated(lists))
-    for line in task.undone[:SAID]:
-        say(line)
+    task.say()
     return task.undone
 
 
