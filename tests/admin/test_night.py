@@ -9,7 +9,7 @@ from unittest.mock import patch
 
 from rooms_admin.cli import report
 from rooms_admin.host import locks, mail
-from rooms_admin.room import program
+from rooms_admin.room import program, server
 from rooms_admin.backup import backups, dates, night, texts
 from rooms_admin.people import ended
 from test_backups import Folder
@@ -83,6 +83,43 @@ class Night(Folder):
             run.for_users()
         self.assertEqual((self.asked, run.failures),
                          ([run.kept], ["there is no lists.txt: no access ended"]))
+
+
+class Ended(Folder):
+    """An access that is over, in a room of one page; the program is a script."""
+    LISTS = ("folder a b /c\ndacl\nlist:\nA:fd:eve:rxtc\n"
+             "A:g:until.2026-01-01.read.u.eve@alice:\nsacl\nlist:\n")
+
+    def told(self, state: str) -> list[str]:
+        place = f"{self.home}/program"
+        with open(place, "w", encoding="ascii") as made:
+            made.write(f"#!/bin/sh\nif [ $1 = dump ]; then printf %s '{self.LISTS}'; else\n"
+                       f"{{ echo $*; cat; }} >{self.home}/done; fi\n")
+        os.chmod(place, 0o755)
+        room = self.settings("office", PROGRAM=place)
+        with open(room.file, "wb"), tempfile.TemporaryFile() as lists, \
+                patch.object(server, "state", return_value=state), \
+                patch.object(server, "systemctl", return_value=(0, "")), \
+                patch.object(locks, "RUN", self.home), \
+                contextlib.redirect_stdout(io.StringIO()), \
+                contextlib.redirect_stderr(io.StringIO()):
+            lists.write(self.LISTS.encode())
+            lists.flush()
+            return ended.take_back(room, lists, None)
+
+    def test_of_a_room_that_is_not_served(self) -> None:
+        self.assertEqual(self.told("inactive"), [])
+        with open(f"{self.home}/done", encoding="ascii") as done:
+            self.assertRegex(done.read(), r"^reset \S+/office.rooms /c dacl\nlist:\n"
+                             r"A:g:ended.\d{4}-\d\d-\d\d.read.u.eve@alice:\n$")
+
+    def test_of_one_whose_server_does_not_start(self) -> None:
+        """Its line has a mail of its own."""
+        for state in ("failed", "activating"):
+            told, = self.told(state)
+            self.assertTrue(told.startswith("not taken back: 1 lists have accesses that are over: "
+                                            f"rooms@office is '{state}', and "), told)
+        self.assertFalse(os.path.exists(f"{self.home}/done"))
 
 
 class Mail(Folder):

@@ -87,8 +87,15 @@ sets alice /given list:a A:fd:eve:rxtc "$(ends "$over" read u.eve alice)"
 dumps
 unit stop
 room_verb until
-says 'a server that rests' 0 'no server runs: 1 lists have accesses that are over'
+says 'a server that rests' 0 "taken back: /given: read of eve, until $over, asked by alice"
 unit_rests 'stays so'
+unit start
+sets alice /given list:a A:fd:eve:rxtc "$(ends "$over" read u.eve alice)"
+dumps
+kill -KILL "$(cat "$stand/pid")"
+room_verb until
+says 'a server that ends by itself' 1 \
+  "not taken back: 1 lists have accesses that are over: rooms is 'activating', and the next run"
 unit start
 room_verb until --dry-run
 says 'a look' 0 "would take back: /given: read of eve, until $over, asked by alice"

@@ -174,9 +174,11 @@ class Run:
                 for one in due.ends:
                     print(f"would take back: {_shown(due.path)}: {one.words()}")
             return
-        if server.state(self.room) != "active" and not os.path.exists(
-                server.left_at_rest(self.room)):
-            say(f"no server runs: {len(found)} lists have accesses that are over, and {NEXT}")
+        # Of a room that isn't served nobody has to wait; one that doesn't start may be damaged.
+        state = server.settled(self.room)
+        if state not in ("active", "inactive") and not server.was_left(self.room):
+            self._undone.append((b"", f"not taken back: {len(found)} lists have accesses that are "
+                                 f"over: {self.room.unit} is '{state}', and {NEXT}"))
             return
         self._undone.clear()
         self._strange.clear()
