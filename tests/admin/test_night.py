@@ -12,6 +12,7 @@ from rooms_admin.host import locks, mail
 from rooms_admin.room import program, server
 from rooms_admin.backup import backups, dates, night, texts
 from rooms_admin.people import ended
+from rooms_admin.machine_tar import machine_tar
 from test_backups import Folder
 
 DEPLOY = os.path.join(os.path.dirname(__file__), "..", "..", "deploy")
@@ -120,6 +121,40 @@ class Ended(Folder):
             self.assertTrue(told.startswith("not taken back: 1 lists have accesses that are over: "
                                             f"rooms@office is '{state}', and "), told)
         self.assertFalse(os.path.exists(f"{self.home}/done"))
+
+
+class Latest(Folder):
+    """machine.tar of which room, whoever names none."""
+
+    def made(self, room: str, name: str) -> str:
+        place = f"{self.backup(name, 7, room)}/machine.tar"
+        with open(place, "w", encoding="ascii"):
+            return place
+
+    def found(self) -> tuple[str, str]:
+        with contextlib.redirect_stderr(io.StringIO()) as said:
+            return machine_tar.find(self.room.conf, "latest"), said.getvalue()
+
+    def test_it_is_of_the_machines_last_night(self) -> None:
+        invoices = self.made("invoices", "2026-11-29.040100")
+        self.assertEqual(self.found(), (invoices, ""))
+        office = self.made("office", "2026-11-29.040000")
+        self.assertEqual(self.found(), (office, ""))
+        # Office's nights fail from here on, and it may have none any more.
+        newest = self.made("invoices", "2026-11-30.040100")
+        place, said = self.found()
+        self.assertEqual(place, newest)
+        self.assertIn(f"not of office, whose last one is {os.path.dirname(office)}: ", said)
+        self.assertEqual(machine_tar.find(self.room.conf, "2026-11-29.040000"), office)
+
+    def test_a_newer_one_is_told(self) -> None:
+        self.made("office", "2026-11-28.040000")
+        place = os.path.dirname(self.made("invoices", "2026-11-30.040100"))
+        tar = machine_tar.Tar("x.tar", {"machine/about": "date 2026-11-28T04:00:00Z"}, {
+            f"etc/rooms/{name}.conf": machine_tar.File() for name in ("office", "invoices")})
+        told, = machine_tar.lacking(self.room.conf, tar)
+        self.assertTrue(told.startswith("newer than x.tar: that of invoices, "), told)
+        self.assertTrue(told.endswith(f": rooms-admin restore --machine {place}"), told)
 
 
 class Mail(Folder):

@@ -15,7 +15,7 @@ from ..passwords import passwords
 from ..backup import backups
 from ..site import template
 from . import machine
-from ..cli.report import Refused, Stop
+from ..cli.report import Refused, Stop, say
 from ..host.root import ROOT
 
 _OWN_WORDS = ("machine/about", "machine/certificates", "machine/enabled", "machine/added")
@@ -37,6 +37,9 @@ _ROOM = re.compile(r"etc/rooms/[^/]+\.conf", re.DOTALL)
 # Some mail programs run what stands behind a '|', and write to a file: this is neither.
 _ADDRESS = r"\w[\w.+'-]*(@[\w.-]+)?"
 _MAIL = rf"({_ADDRESS}(, *{_ADDRESS}| +{_ADDRESS})*)?"
+
+# Seconds. Nights of several rooms begin at once, and one may take four hours.
+_ONE_NIGHT, _A_DAY = 6 * 3600, 24 * 3600
 
 
 @dataclass
@@ -92,13 +95,17 @@ def _backups_of(conf: str) -> str:
 
 def lacking(conf: str, tar: Tar) -> list[str]:
     """Rooms with backups here whose settings the tar of a night hasn't, a line each: one that was
-    made since has a tar of its own. An older one would bring back old passwords of all rooms."""
+    made since has a tar of its own. An older one would bring back old passwords of all rooms: so a
+    room with a newer tar is told too."""
     if "machine/added" in tar.words:
         return []
     known = {settings.name_of(one) for one in tar.rooms()}
     rows = []
     for name, some in _of_each(_backups_of(conf)).items():
         if name in known:
+            if (backups.made(some[-1]) or 0) - tar.moment() > _A_DAY:
+                rows.append(f"newer than {tar.place}: that of {name}, which may lack passwords "
+                            f"that this one has: rooms-admin restore --machine {some[-1].place}")
             continue
         if (backups.made(some[-1]) or 0) > tar.moment():
             rows.append(f"{name} has backups, and no settings in {tar.place}, as a room that was "
@@ -117,18 +124,31 @@ def _of_each(folder: str) -> dict[str, list[backups.Backup]]:
     return {name: some for name, some in rows.items() if some}
 
 
+def _latest(conf: str, folder: str) -> str:
+    """Whose room it is of, unless office's that is of another night than the newest one: the
+    machine's newest tar has passwords that were taken away since. Numbers are each room's own."""
+    backups.need_disk(folder)
+    name = settings.name_of(conf)
+    own = backups.with_file(folder, name, "machine.tar")[-1:]
+    # Without settings, too, a machine may have rooms for another one's front end alone.
+    others = [some[-1] for some in _of_each(folder).values()] if name == "office" else []
+    newest = max(own + others, key=lambda one: backups.made(one) or 0, default=None)
+    if newest is None:
+        raise Refused(f"no machine: no backup in {folder} has a machine.tar")
+    if own and _is_younger(newest, own[-1]):
+        say(f"not of {name}, whose last one is {own[-1].place}: {newest.place} is the newest")
+        return newest.place
+    return (own or [newest])[-1].place
+
+
+def _is_younger(one: backups.Backup, other: backups.Backup) -> bool:
+    return (backups.made(one) or 0) - (backups.made(other) or 0) > _ONE_NIGHT
+
+
 def find(conf: str, backup: str) -> str:
     folder = _backups_of(conf)
     if backup == "latest":
-        backups.need_disk(folder)
-        found = backups.with_file(folder, settings.name_of(conf), "machine.tar")
-        if not found and settings.name_of(conf) == "office":
-            # A machine may have rooms for another one's front end alone.
-            found = sorted((some[-1] for some in _of_each(folder).values()),
-                           key=lambda one: one.name)
-        if not found:
-            raise Refused(f"no machine: no backup in {folder} has a machine.tar")
-        backup = found[-1].place
+        backup = _latest(conf, folder)
     for above in (backups.below(folder, settings.name_of(conf)), folder):
         if "/" not in backup and os.path.isdir(os.path.join(above, backup)):
             backup = os.path.join(above, backup)
