@@ -8,9 +8,10 @@ import unittest
 from unittest.mock import patch
 
 from rooms_admin.cli import report
+from rooms_admin.cli.report import Refused
 from rooms_admin.host import locks, mail
 from rooms_admin.room import program, server
-from rooms_admin.backup import backups, dates, night, texts
+from rooms_admin.backup import backups, dates, night, restoring, texts
 from rooms_admin.people import ended
 from rooms_admin.machine_tar import machine_tar
 from test_backups import Folder
@@ -155,6 +156,23 @@ class Latest(Folder):
         told, = machine_tar.lacking(self.room.conf, tar)
         self.assertTrue(told.startswith("newer than x.tar: that of invoices, "), told)
         self.assertTrue(told.endswith(f": rooms-admin restore --machine {place}"), told)
+
+
+class Mounted(Folder):
+    def test_a_restore_waits_for_the_rooms_own_disk(self) -> None:
+        os.mkdir(f"{self.home}/etc")
+        with open(f"{self.home}/etc/fstab", "w", encoding="ascii") as table:
+            table.write(f"UUID=none {self.home} ext4 nofail 0 2\n")
+        place = self.backup("2026-11-30.040000", 7)
+        before = sorted(os.listdir(self.home))
+        with patch.dict(os.environ, ROOMS_ROOT=self.home), \
+                patch.object(locks, "lock", lambda *_: contextlib.nullcontext()), \
+                patch.object(server, "systemctl", return_value=(3, "inactive")):
+            for does in (restoring.restore_room, restoring.would_restore):
+                with self.assertRaisesRegex(Refused, f"^not mounted: {self.home}, which /etc/fstab "
+                                            f"has, so {self.home}, of FILE, isn't on its disk$"):
+                    does(self.room.conf, place, True, look=lambda _: None)
+        self.assertEqual(sorted(os.listdir(self.home)), before)
 
 
 class Mail(Folder):

@@ -262,11 +262,20 @@ class Restore:
             raise Stop(why)
 
 
+def _room(conf: str) -> Room:
+    """Where its own disk isn't mounted, what is written below the mount point would be hidden once
+    the disk is back, with all that was done since."""
+    room = settings.room(conf)
+    if why := backups.unmounted(room.folder, "FILE"):
+        raise Refused(why)
+    return room
+
+
 def restore_room(conf: str, backup: str, start: bool, starts: bool = False,
                  look: Callable[[Taken], None] = lambda taken: None) -> None:
     """Without a backup it only cleans up after a run that was cut off. What the disk of backups has
     is here before the room is locked. `look` may change what was taken."""
-    room = settings.room(conf)
+    room = _room(conf)
     named = f"--room {conf} " if conf else ""
     with locks.lock(room.unit, 0):
         if not start:
@@ -320,7 +329,7 @@ def _tell_nothing(room: Room, named: str) -> None:
 
 def would_restore(conf: str, backup: str, start: bool, look: Callable[[Taken], None]) -> None:
     """The backup is verified as it would be; nothing is stopped, and nothing changes."""
-    room = settings.room(conf)
+    room = _room(conf)
     if not start:
         refuse_while_served(room)
     with taken_from(room, backups.find(room, backup)) as taken:
