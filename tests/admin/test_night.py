@@ -5,10 +5,11 @@ import os
 import re
 import tempfile
 import unittest
+from collections.abc import Callable
 from unittest.mock import patch
 
 from rooms_admin.cli import report
-from rooms_admin.cli.report import Refused
+from rooms_admin.cli.report import Refused, Stop
 from rooms_admin.host import locks, mail
 from rooms_admin.room import program, server
 from rooms_admin.backup import backups, dates, night, restoring, texts
@@ -85,6 +86,25 @@ class Night(Folder):
             run.for_users()
         self.assertEqual((self.asked, run.failures),
                          ([run.kept], ["there is no lists.txt: no access ended"]))
+
+    def test_a_damaged_room_does_not_fill_the_disk_of_backups(self) -> None:
+        """Each night has one more copy of it. What isn't a run's stays, and keeps no other."""
+        good = self.backup("2026-10-01.040000", 1)
+        for day in range(1, 8):
+            self.backup(f"2026-11-0{day}.040000.unsound")
+        with open(f"{self.backups}/office/2026-11-02.040000.unsound/mine", "w", encoding="ascii"):
+            pass
+        run = self.run_of("echo unsound; exit 1")
+        run.date, run.part = "2026-11-08.040000", self.backup("2026-11-08.040000.part")
+        with open(self.room.file, "w", encoding="ascii"), \
+                contextlib.redirect_stderr(io.StringIO()), contextlib.ExitStack() as owned, \
+                self.assertRaisesRegex(Stop, "^verify of the copy failed, status 1: unsound; it "):
+            run.keep_copy(owned, 2)
+        self.assertEqual(sorted(os.listdir(os.path.dirname(good))), [
+            "2026-10-01.040000", "2026-11-02.040000.unsound.part", "2026-11-06.040000.unsound",
+            "2026-11-07.040000.unsound", "2026-11-08.040000.unsound", "2026-11-30.040000"])
+        self.assertEqual(len(run.failures), 1)
+        self.assertIn("has more in it than a copy", run.failures[0])
 
 
 class Ended(Folder):
@@ -168,7 +188,8 @@ class Mounted(Folder):
         with patch.dict(os.environ, ROOMS_ROOT=self.home), \
                 patch.object(locks, "lock", lambda *_: contextlib.nullcontext()), \
                 patch.object(server, "systemctl", return_value=(3, "inactive")):
-            for does in (restoring.restore_room, restoring.would_restore):
+            both: list[Callable[..., None]] = [restoring.restore_room, restoring.would_restore]
+            for does in both:
                 with self.assertRaisesRegex(Refused, f"^not mounted: {self.home}, which /etc/fstab "
                                             f"has, so {self.home}, of FILE, isn't on its disk$"):
                     does(self.room.conf, place, True, look=lambda _: None)

@@ -189,6 +189,8 @@ class Night:
             raise Stop(f"the copy can't be named {place}: {safe.why(fault)}") from fault
         self.part = ""
         if status != 0:
+            for hindered in tidying.old_unsound(self.room, place + ".unsound"):
+                self.failed(hindered)
             raise Stop(f"verify of the copy failed, status {status}: "
                        f"{text or out.decode(errors='replace').strip()}; it stays as "
                        f"{place}.unsound, which is no backup")

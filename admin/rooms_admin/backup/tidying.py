@@ -12,6 +12,9 @@ from .backups import Backup
 # What is beside a room's two files, also while it is written. An earlier version had a verdict.
 _BESIDE = (texts.RECORDS, texts.LISTS, texts.REVIEW, "machine.tar", "verdict", backups.RUN,
            backups.FILES, dates.KEPT, dates.FRESH)
+_UNSOUND = ".unsound"
+# How many copies stay in which verify found a fault.
+UNSOUND = 3
 
 
 def remove_unfinished(place: str) -> None:
@@ -37,6 +40,17 @@ def remove(room: Room, place: str, why: str) -> str:
         return ""
     except OSError:
         return f"{place} can't be removed: it {why}"
+
+
+def old_unsound(room: Room, place: str) -> list[str]:
+    """A room that is damaged has one more each night, until somebody restores it, and the disk of
+    backups is for good ones too. Those beyond the last go, of which one is at `place`; what
+    hindered that."""
+    above, last = os.path.split(place)
+    older = [one for one in sorted(os.listdir(above)) if one != last and one.endswith(_UNSOUND)
+             and backups.DATED.fullmatch(one.removesuffix(_UNSOUND))]
+    return [remove(room, os.path.join(above, one), "has more in it than a copy")
+            for one in older[:1 - UNSOUND]]
 
 
 def ahead(before: list[Backup], keep: Keep, date: str) -> str:
