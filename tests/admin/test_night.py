@@ -11,10 +11,11 @@ from unittest.mock import patch
 from rooms_admin.cli import report
 from rooms_admin.cli.report import Refused, Stop
 from rooms_admin.host import locks, mail
-from rooms_admin.room import program, server
+from rooms_admin.room import program, server, settings
 from rooms_admin.backup import backups, dates, night, restoring, texts
 from rooms_admin.people import ended
 from rooms_admin.machine_tar import machine_tar
+from rooms_admin.site import certificates
 from test_backups import Folder
 
 DEPLOY = os.path.join(os.path.dirname(__file__), "..", "..", "deploy")
@@ -194,6 +195,33 @@ class Mounted(Folder):
                                             f"has, so {self.home}, of FILE, isn't on its disk$"):
                     does(self.room.conf, place, True, look=lambda _: None)
         self.assertEqual(sorted(os.listdir(self.home)), before)
+
+
+class Certificates(Folder):
+    def told_by(self, *timers: str) -> list[str]:
+        """Which rooms' nights tell of one, where these rooms have nights."""
+        def asked(words: list[str]) -> str:
+            name = words[2].removeprefix("rooms-nightly@").removesuffix(".timer")
+            return "active" if name in timers else "inactive"
+        rooms = [self.settings(name) for name in ("bills", "invoices", "office")]
+        with patch.object(certificates, "printed", asked), \
+                patch.object(certificates, "ROOT", self.home), \
+                patch.object(settings, "HOME", self.home), \
+                patch.object(os, "geteuid", return_value=0), \
+                patch.object(certificates, "see_certificate", lambda one: (1, one)):
+            told = [certificates.to_be_told(room)[0] for room in rooms]
+        self.assertLessEqual(set(told), {"", "/etc/rooms/machines/b.pem"})
+        return [room.name for room, text in zip(rooms, told) if text]
+
+    def test_one_night_tells_of_them(self) -> None:
+        """Also of those by which machines know one another, where the site has none here."""
+        os.makedirs(f"{self.home}/etc/rooms/machines")
+        with open(f"{self.home}/etc/rooms/machines/b.pem", "w", encoding="ascii"):
+            pass
+        # Office's own run does it also where somebody starts it by hand.
+        self.assertEqual(self.told_by("bills", "invoices", "office"), ["office"])
+        self.assertEqual(self.told_by("bills", "invoices"), ["bills", "office"])
+        self.assertEqual(self.told_by("invoices"), ["invoices", "office"])
 
 
 class Mail(Folder):

@@ -408,14 +408,7 @@ def see_certificates() -> list[Finding]:
             settings.front(site)
     except Refused as stop:
         return [(CRITICAL, str(stop))]
-    wanted = certificates.site_certificates()
-    folder = root.ROOT + "/etc/rooms/machines"
-    try:
-        wanted += [f"/etc/rooms/machines/{name}" for name in sorted(os.listdir(folder))
-                   if name.endswith(".pem")]
-    except OSError:
-        pass
-    return [*map(certificates.see_certificate, wanted),
+    return [*map(certificates.see_certificate, certificates.all_of_machine()),
             *((WARNING, said) for file in certificates.site_certificates()
               for said in (served.see_names(file), served.see_renewal(file)) if said)]
 

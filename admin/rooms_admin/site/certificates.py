@@ -1,4 +1,5 @@
 """The certificate of the site, as its settings name it, and whether one ends soon."""
+import glob
 import os
 import re
 import ssl
@@ -10,7 +11,7 @@ from ..room import settings
 from ..host.commands import printed
 from ..host.root import ROOT
 from ..room.settings import Room
-from . import served
+from . import served, template
 
 _BLOCK = re.compile(rb"-----BEGIN CERTIFICATE-----.*?-----END CERTIFICATE-----", re.DOTALL)
 # How many of those that certify it are looked at.
@@ -72,15 +73,32 @@ def _above_ends(file: str, seconds: int) -> str:
     return ""
 
 
+def all_of_machine() -> list[str]:
+    """The site's, and those by which machines know one another."""
+    found = glob.glob(glob.escape(f"{ROOT}{template.MACHINES}") + "/*.pem")
+    return site_certificates() + [one.removeprefix(ROOT) for one in sorted(found)]
+
+
+def _tells(room: Room) -> bool:
+    """One room's run does it: that of office, or where office has no nights the first that has."""
+    if room.unit != f"rooms@{room.name}" or room.name == "office":
+        return room.unit == "rooms@office"
+    names = sorted(map(settings.name_of, glob.glob(glob.escape(settings.HOME) + "/*.conf")))
+    for name in sorted(names, key=lambda one: one != "office"):
+        if printed(["systemctl", "is-active", f"rooms-nightly@{name}.timer"]) == "active":
+            return name == room.name
+    return False
+
+
 def to_be_told(room: Room) -> tuple[str, bool]:
-    """What is to be told of the site's certificate, which the run of office alone does; and whether
-    that is a failure by now."""
-    if room.unit != "rooms@office" or os.geteuid() != 0:
+    """What is to be told of certificates, and whether that is a failure by now."""
+    if os.geteuid() != 0 or not _tells(room):
         return "", False
-    for file in site_certificates():
+    for file in all_of_machine():
         level, text = see_certificate(file)
         if level:
             return text, level == 2
+    for file in site_certificates():
         if text := served.see_names(file) or served.see_renewal(file):
             return text, False
     return "", False
