@@ -28,6 +28,8 @@ class Way:
 
     def __init__(self, place: str, own: str, patience: float = waits.START) -> None:
         self._place, self._own, self._patience = place, own, patience
+        # A clock that is set while somebody waits, as at a machine's start, ends nobody's wait.
+        self._clock = time.time() - time.monotonic()
         # Only who came first looks.
         self._turn = threading.Lock()
         self._counting = threading.Lock()
@@ -69,7 +71,8 @@ class Way:
     def _gone(self) -> float:
         """For how long there is no server: the folder changes with its names, and with nothing
         else."""
-        return time.time() - os.stat(os.path.dirname(self._place)).st_mtime
+        now = min(time.time(), self._clock + time.monotonic())
+        return now - os.stat(os.path.dirname(self._place)).st_mtime
 
     def server(self) -> socket.socket | None:
         """Once it is there; nothing if it doesn't come in time, from when it went."""

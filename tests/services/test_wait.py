@@ -171,6 +171,14 @@ class Waiting(Over):
         self.assertEqual(all_of(self.asking(b"x")), b"")
         self.assertLess(time.monotonic() - began, 2.0)
 
+    def test_a_clock_that_is_set_ends_no_wait(self) -> None:
+        """As at a machine's start; ahead, and back again."""
+        way.to_waiting("office")
+        for ahead, wanted in ((0, 0), (90, 0), (-90, -90)):
+            now = time.time() + ahead
+            with mock.patch.object(time, "time", lambda: now):
+                self.assertAlmostEqual(self.way._gone(), wanted, delta=20)
+
     def test_one_that_is_stopped(self) -> None:
         way.to_waiting("office")
         caller = self.asking(b"x")
