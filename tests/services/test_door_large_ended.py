@@ -183,6 +183,7 @@ class Damaged(Large):
         self.judged.does("pat", "PUT", "/doc/p/x", in_parts.Manifest(
             count * SMALL, whole.digest, tuple((number, in_parts.digest_of(part))
                                                for number in range(1, count + 1))).text())
+        self.answers_in(0.01)
         self.judged.connections.clear()
         self.assertEqual(self.got(path="p/x"), part * count)
         self.assertEqual(self.put(data_of(4 * SMALL, 2), path="p/x", match="*"), 204)

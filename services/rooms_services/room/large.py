@@ -13,6 +13,8 @@ Asks = Callable[[Ask], Reply]
 # Lets others ask the room, where what belongs together is asked over one connection and they have
 # waited a while.
 Rest = Callable[[], object]
+# Ends what goes on part by part once another document is at the path.
+Same = Callable[[], None]
 
 
 def part(names: Names, number: int) -> Names:
@@ -75,11 +77,31 @@ def is_document(ask: Asks, names: Names) -> bool:
     return ask(about("GET", "folder", names)._replace(is_bare=True)).why == "wrong-kind"
 
 
-def resting(numbers: Iterable[int], rest: Rest | None) -> Iterator[int]:
-    for number in numbers:
+def resting(numbers: Iterable[int], rest: Rest | None, same: Same | None = None
+            ) -> Iterator[int]:
+    """By their names they are the parts of whatever document is at the path: somebody may have
+    moved another one there, or a folder above it, while others were answered."""
+    for place, number in enumerate(numbers):
+        if place and rest and rest() and same:
+            same()
         yield number
-        if rest:
-            rest()
+
+
+class Another(Stop):
+    """Another document is at the path."""
+
+
+def same_as(ask: Asks, names: Names, seen: bytes | None) -> Same:
+    """Of the bytes that were seen of the document itself, or none if nothing was there."""
+    def look() -> None:
+        if seen is None:
+            is_same = not is_there(ask, names)
+        else:
+            now = ask(about("GET", "doc", names))
+            is_same = (now.status, now.body) == (200, seen)
+        if not is_same:
+            raise Another(412, "changed", "it isn't the one that was seen any more", shown(names))
+    return look
 
 
 def of(ask: Asks, names: Names, body: bytes) -> Manifest | None:

@@ -15,7 +15,7 @@ from rooms_admin.room.in_parts import LARGEST, Manifest
 
 from ...room import large
 from ...room.answers import Answer, Stop
-from ...room.large import Asks, Rest
+from ...room.large import Asks, Rest, Same
 from ...room.parts import Parts
 from ...room.paths import Names, shown
 from ...room.room import Ask, Reply, Room, Talk, about
@@ -90,7 +90,9 @@ class Writing:
     def __init__(self, room: Room, user: str, names: Names, upload: Upload, look: Look) -> None:
         self.room, self.user, self.names = room, user, names
         self.upload, self.look = upload, look
-        # The numbers of parts that were made, and of those that were written to.
+        # What was there, or nothing; the numbers of parts that were made, and of those that were
+        # written to.
+        self.before: bytes | None = None
         self.made: list[int] = []
         self.written: list[int] = []
 
@@ -110,6 +112,7 @@ class Writing:
             raise Stop(413, "too-large", "a document of too many parts")
         with self.room.talk(self.user) as talk:
             before = self.look(talk)
+        self.before = before.body if before else None
         # (behind the look, which ends what is about the root)
         large.refuse_long_name(self.names)
         # (most are new, and have none)
@@ -147,11 +150,26 @@ class Writing:
         before, old, count = self._allowed()
         now = self._over(self._free(old, count)) if before else self._new()
         reply = self._named(now)
-        empty(self._ask, self.names, old.numbers if old else ())
+        self._drop_old(old, now)
         return Answer(reply.status, fields={"ETag": now.tag})
 
     def _ask(self, ask: Ask) -> Reply:
         return self.room.ask(self.user, ask)
+
+    def _refuse_another(self, talk: Talk) -> None:
+        """Before a part is written to over this connection."""
+        try:
+            large.same_as(talk.ask, self.names, self.before)()
+        except large.Another:
+            self.look(talk)
+            raise
+
+    def _drop_old(self, old: Manifest | None, now: Manifest) -> None:
+        """All is done: where another document has come to the path, its parts are left alone."""
+        if not old:
+            return
+        with self.room.talk(self.user) as talk:
+            empty_of(talk, self.names, now.text(), old.numbers)
 
     def _named(self, now: Manifest) -> Reply:
         """The one request that all depends on. Where no answer comes, nothing is taken back: it may
@@ -160,6 +178,7 @@ class Writing:
             is_whole = all(large.is_there(talk.ask, large.part(self.names, number)) for number
                            in large.resting(sorted(now.numbers), talk.rest))
             self.look(talk)
+            self._refuse_another(talk)
             if not is_whole:
                 raise Stop(503, "busy", "somebody removed a part of it meanwhile; nothing was done",
                            fields={"Retry-After": "1"})
@@ -211,6 +230,7 @@ class Writing:
         for number, piece in zip(free, self.upload.pieces()):
             place = large.part(self.names, number)
             with self.room.talk(self.user) as talk:
+                self._refuse_another(talk)
                 if not self._is_alike(talk.ask, place):
                     raise Stop(409, "left-over", "something has the name of a part", shown(place))
                 self.written.append(number)
@@ -265,25 +285,44 @@ class Writing:
                     "its owner, or who manages it and its folder, can add some", shown(self.names))
 
     def _take_back(self) -> None:
-        """As far as the room answers and the caller may. From the last on, so that their numbers
-        have no gap."""
+        """As far as the room answers and the caller may, and the document is the one that it was.
+        From the last on, so that their numbers have no gap."""
+        if not self.made and not self.written:
+            return
         try:
-            for number in sorted(self.made, reverse=True):
-                place = large.part(self.names, number)
-                if self._ask(about("DELETE", "object", place)).status != 204:
-                    self.written.append(number)
-            empty(self._ask, self.names, self.written)
+            with self.room.talk(self.user) as talk:
+                same = large.same_as(talk.ask, self.names, self.before)
+                same()
+                for number in large.resting(sorted(self.made, reverse=True), talk.rest, same):
+                    place = large.part(self.names, number)
+                    if talk.ask(about("DELETE", "object", place)).status != 204:
+                        self.written.append(number)
+                empty_of(talk, self.names, self.before, self.written)
         except Stop:
             pass
 
 
-def empty(ask: Asks, names: Names, numbers: Iterable[int], rest: Rest | None = None) -> None:
-    """What was replaced is gone. Whoever may write the document may do that; what has no more than
-    the name of a part stays."""
-    for number in large.resting(sorted(numbers), rest):
-        place = large.part(names, number)
-        if ask(about("GET", "can", place, "w")).rulings().get("w"):
-            ask(about("PUT", "doc", place))
+def empty_of(talk: Talk, names: Names, seen: bytes | None, numbers: Iterable[int]) -> None:
+    """As long as the document is this one."""
+    same = large.same_as(talk.ask, names, seen)
+    try:
+        same()
+    except large.Another:
+        return
+    empty(talk.ask, names, numbers, talk.rest, same)
+
+
+def empty(ask: Asks, names: Names, numbers: Iterable[int], rest: Rest | None = None,
+          same: Same | None = None) -> None:
+    """What was replaced is gone, or stays in unused parts if another document has come to the path.
+    Whoever may write the document may do that; what has no more than the name of a part stays."""
+    try:
+        for number in large.resting(sorted(numbers), rest, same):
+            place = large.part(names, number)
+            if ask(about("GET", "can", place, "w")).rulings().get("w"):
+                ask(about("PUT", "doc", place))
+    except large.Another:
+        pass
 
 
 def put_small(ask: Asks, names: Names, body: bytes, rest: Rest | None = None) -> Reply:
@@ -294,7 +333,7 @@ def put_small(ask: Asks, names: Names, body: bytes, rest: Rest | None = None) ->
     if reply.status in (201, 204):
         # (they are counted behind it, since there may be very many)
         empty(ask, names, range(1, large.count(ask, names, rest) + 1) if used is None else used,
-              rest)
+              rest, None if used is None else large.same_as(ask, names, body))
     return reply
 
 

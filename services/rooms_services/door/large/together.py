@@ -9,7 +9,7 @@ from rooms_admin.room import in_parts
 
 from ...room import large
 from ...room.answers import Answer, Stop
-from ...room.large import Asks, Rest
+from ...room.large import Asks, Rest, Same
 from ...room.paths import Names, attributes_in, shown
 from ...room.room import Ask, Reply, Room, about
 from ..folders import matched
@@ -37,8 +37,10 @@ def remove(ask: Asks, names: Names, rest: Rest | None = None) -> Reply:
     count = large.count_of(ask, names, rest)
     above = _may_above(ask, names) if count else Reply(404, b"")
     if _may_go(ask, names, above):
-        used = _used(ask, names, count)
-        for number in large.resting(_all_of(ask, names, count, used), rest):
+        seen = _seen(ask, names)
+        used = _used(seen, count)
+        for number in large.resting(_all_of(ask, names, count, used), rest,
+                                    _same(ask, names, seen)):
             place = large.part(names, number)
             if _may_go(ask, place, above):
                 ask(about("DELETE", "object", place))
@@ -53,7 +55,7 @@ def remove_left(ask: Asks, names: Names, rest: Rest | None = None) -> Reply:
     count = large.count(ask, names, rest)
     if not count or large.is_there(ask, names):
         raise Stop(404, "no-such", "no parts of an upload are left", shown(names))
-    for number in large.resting(_from_the_last(count), rest):
+    for number in large.resting(_from_the_last(count), rest, large.same_as(ask, names, None)):
         reply = ask(about("DELETE", "object", large.part(names, number)))
         if reply.status != 204:
             raise refused(reply, names, number)
@@ -87,9 +89,11 @@ def move(ask: Asks, names: Names, to: Names, rest: Rest | None = None) -> Reply:
     if not count or large.is_there(ask, to) or not _may(ask, to[:-1], "w"):
         return ask(moving(names, to))
     large.refuse_long_name(to)
-    used, above = _used(ask, names, count), _may_above(ask, names)
+    seen, above = _seen(ask, names), _may_above(ask, names)
+    used = _used(seen, count)
     moved: list[int] = []
-    for number in large.resting(chain(_all_of(ask, names, count, used), [0]), rest):
+    for number in large.resting(chain(_all_of(ask, names, count, used), [0]), rest,
+                                _same(ask, names, seen)):
         if number not in used and not _may_go(ask, large.part(names, number), above):
             continue
         reply = ask(moving(_place(names, number), _place(to, number)))
@@ -104,12 +108,23 @@ def move(ask: Asks, names: Names, to: Names, rest: Rest | None = None) -> Reply:
     raise _said(reply, names, to, number)
 
 
-def _used(ask: Asks, names: Names, count: int) -> Collection[int]:
+def _seen(ask: Asks, names: Names) -> bytes | None:
+    """The bytes of the document itself, if the caller may read them."""
+    if not ask(about("GET", "can", names, "r")).rulings().get("r"):
+        return None
+    return ask(about("GET", "doc", names)).body
+
+
+def _same(ask: Asks, names: Names, seen: bytes | None) -> Same | None:
+    return None if seen is None else large.same_as(ask, names, seen)
+
+
+def _used(seen: bytes | None, count: int) -> Collection[int]:
     """What has to come along, by its numbers: all, where the caller may not read which these
     are."""
-    if not ask(about("GET", "can", names, "r")).rulings().get("r"):
+    if seen is None:
         return range(count + 1)
-    found = in_parts.read(ask(about("GET", "doc", names)).body)
+    found = in_parts.read(seen)
     return {0, *(found.numbers if found else ())}
 
 
@@ -125,7 +140,7 @@ def _reached(ask: Asks, names: Names, rest: Rest | None) -> Iterable[int]:
     """The parts at which a list or an owner is set with the document's."""
     count = large.count_of(ask, names, rest)
     if count:
-        return _all_of(ask, names, count, _used(ask, names, count))
+        return _all_of(ask, names, count, _used(_seen(ask, names), count))
     return large.beside(ask, names)
 
 

@@ -61,9 +61,9 @@ class Call:
         """How many bytes the room has answered while nobody came between."""
         return self._talk.taken if self._talk else 0
 
-    def rest(self) -> None:
-        if self._talk:
-            self._talk.rest()
+    def rest(self) -> bool:
+        """Whether others were answered."""
+        return self._talk is not None and self._talk.rest()
 
     def ask(self, ask: Ask) -> Reply:
         return self.room.denials.note(

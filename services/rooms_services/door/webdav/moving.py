@@ -12,6 +12,7 @@ from ...room.parts import Parts
 from ...room.paths import Names, is_below, shown
 from ...room.room import Reply, about
 from ..large import replacing, together
+from ..large.held import alone
 from .calls import Call, Drive
 from .objects import Document, Folder, stop_of
 from .tasks import moving
@@ -22,7 +23,7 @@ There = Folder | Document | None
 
 
 def delete(drive: Drive, call: Call) -> Answer:
-    with call.alone():
+    with alone(call.room, call.user, call.names), call.alone():
         drive.heed(call)
         drive.guard(call, call.names, member=True, tree=True)
         reply = together.remove(call.ask, call.names, call.rest)
@@ -64,7 +65,8 @@ def _refuse_replacing(call: Call) -> None:
 
 def move(drive: Drive, call: Call) -> Answer:
     to = _other_place(drive, call)
-    with call.alone():
+    # (whoever writes one of them part by part has all of its parts, by their names)
+    with alone(call.room, call.user, call.names, to), call.alone():
         drive.heed(call)
         drive.guard(call, call.names, member=True, tree=True)
         drive.guard(call, to, member=True, tree=True)
@@ -154,7 +156,7 @@ def _move_parts_over(drive: Drive, call: Call, to: Names, manifest: Manifest) ->
     with drive.reserved(call, *drive.to_write(call, to), call.names):
         _may_leave(call)
         _copy_parts(drive, call, to, manifest)
-        with call.alone():
+        with alone(call.room, call.user, call.names), call.alone():
             # (others came between, who may have saved it by another way)
             if manifest_in(drive.look(call, call.names, True)) != manifest:
                 raise Stop(412, "changed", "it was replaced meanwhile, and stays where it is")
