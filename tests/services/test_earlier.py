@@ -7,6 +7,7 @@ import threading
 import time
 import tracemalloc
 import unittest
+from collections.abc import Callable
 from unittest import mock
 
 from fake_room import FakeRoom, Served
@@ -95,8 +96,8 @@ class There(Over):
         self.assertEqual(self.told("bob", "doc/letters/reply"), NOT_NOW)
         self.deny(self.now, "bob", "/letters", "x")
         self.assertEqual(self.told("bob", "dacl/letters/reply"), NOT_NOW)
-        # No night is opened for that.
-        self.assertEqual(self.opened, [])
+        # No night is opened for that, and it is recorded as any other try.
+        self.assertEqual((self.opened, self.now.seen.count("bob GET /doc/letters/reply")), ([], 1))
 
     def test_that_night_says_no(self) -> None:
         self.deny(self.then, "bob", "/letters/reply", "r")
@@ -115,7 +116,7 @@ class There(Over):
 
     def test_reading_is_asked_for_as_such(self) -> None:
         self.told("bob", "doc/letters/reply")
-        self.assertEqual(self.now.seen[0], "bob GET /doc/letters/reply")
+        self.assertEqual(self.now.seen.count("bob GET /doc/letters/reply"), 1)
         self.assertTrue(all(" GET " in one for one in self.now.seen + self.then.seen))
 
     def test_made_since(self) -> None:
@@ -127,6 +128,56 @@ class There(Over):
         self.now.owners[()] = "dave"
         self.assertEqual(self.names("bob", "folder/"), ["letters"])
         self.assertEqual(self.told("bob", "doc/")[0], 409)
+
+
+class Meanwhile(Over):
+    """What is at a path today is changed for something else, before each connection to the room."""
+
+    def setUp(self) -> None:
+        super().setUp()
+        for folder in ("/", "/letters"):
+            self.deny(self.now, "dana", folder, "Cwa")
+
+    def each_moment(self, is_there: Callable[[], None], comes: Callable[[], None]) -> None:
+        for at in range(1, 20):
+            is_there()
+            before = len(self.now.connections)
+            real = self.now.answer
+
+            def changes(user: str, method: str, target: str, body: bytes) -> tuple[int, object]:
+                if len(self.now.connections) == before + at and self.now.connections[-1] == 1:
+                    comes()
+                return real(user, method, target, body)
+            with mock.patch.object(self.now, "answer", changes):
+                self.assertEqual(self.told("dana", "doc/letters/reply"), NOT_NOW, at)
+            if len(self.now.connections) < before + at:
+                break
+        self.assertGreater(at, 2)
+
+    def test_one_of_their_own(self) -> None:
+        """Which they may read, as they may the other one no more."""
+        def own() -> None:
+            self.now.owners["letters", "reply"] = "dana"
+            self.now.denied.discard(("dana", "/letters/reply", "r"))
+
+        def other() -> None:
+            self.now.owners["letters", "reply"] = "carol"
+            self.now.denied.add(("dana", "/letters/reply", "r"))
+        self.each_moment(own, other)
+
+    def test_a_folder_of_their_own(self) -> None:
+        """Where they may set lists, or list and add to it."""
+        del self.now.objects["letters", "reply"]
+
+        def other() -> None:
+            self.now.owners["letters",] = "alice"
+            self.deny(self.now, "dana", "/letters", "Cwa")
+
+        def own() -> None:
+            self.now.owners["letters",] = "dana"
+            self.now.denied = {one for one in self.now.denied if one[1] == "/"}
+        for self.shown_to in ("owners", "members"):
+            self.each_moment(other, own)
 
 
 class Large(Over):
@@ -153,8 +204,7 @@ class Large(Over):
                                          range(100, 8000)], separators=(",", ":")).encode())
         before = tracemalloc.get_traced_memory()[0]
         tracemalloc.reset_peak()
-        with mock.patch.object(judging.Look, "_may", return_value=False):
-            answer = look._listing(listing, listing, ("letters",))
+        answer = look._listing(listing, listing, judging.Seen(("letters",), listing, {}, None))
         taken = tracemalloc.get_traced_memory()[1] - before
         tracemalloc.stop()
         self.assertEqual(answer.body, listing.body)
