@@ -78,6 +78,7 @@ node_says 'what was seen further down, after changes' '300 tried, 0 faults' \
   "$here/web/crawling.mjs" page 300
 node_says 'what may not be read, and a room that is away' '42 tried, 0 faults' \
   "$here/web/away.mjs" page
+node_says 'where an address leads' '73 tried, 0 faults' "$here/web/addresses.mjs" page
 node_says 'how many requests are sent at once' '6 tried, 0 faults' "$here/web/paced.mjs" page
 node_says 'large documents over a line that fails' '73 tried, 0 faults' \
   "$here/web/in_pieces.mjs" page

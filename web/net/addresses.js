@@ -2,10 +2,15 @@
 
 const VIEWS = ['show', 'access', 'rights', 'dacl', 'sacl', 'earlier', 'new'];
 
+// No object is called so. A browser takes them out of what it asks for, also escaped, and goes up.
+const isName = (word) => word !== '.' && word !== '..';
+
 // A path is '/' alone, or a '/' before each name. In a target each name is percent-encoded. Targets
 // are relative, so a room is asked below the address at which its page is served.
 export function target(word, path) {
-  return `${word}/${path.split('/').slice(1).map(encodeURIComponent).join('/')}`;
+  const names = path.split('/').slice(1);
+  if (!names.every(isName)) throw new RangeError(`no path of a room: ${path}`);
+  return `${word}/${names.map(encodeURIComponent).join('/')}`;
 }
 
 function decoded(name) {
@@ -21,6 +26,7 @@ function decoded(name) {
 export function whereIs(hash) {
   const [place, rest = ''] = hash.replace(/^#/, '').split('?');
   const [view, night = null] = rest.split('=');
-  const names = place.split('/').filter((name) => name !== '').map(decoded);
+  const names = place.split('/').map(decoded).join('/').split('/')
+    .filter((name) => name !== '' && isName(name));
   return { path: `/${names.join('/')}`, view: VIEWS.includes(view) ? view : null, night };
 }
