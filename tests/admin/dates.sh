@@ -139,13 +139,23 @@ told_last 'has no moment' '"restored": 0}'
 holds 'nothing else is left' \
   [ "$(cd root/var/lib/rooms-told && echo *)" = 'conf.night conf.told conf.words' ]
 same 'root has the words too' root/var/lib/rooms-told/conf.words "$words"
+# A restore that was killed once the files were exchanged.
+at=$(sed -n 's/^FILE=//p' conf)
+mkdir -p "${at%/*}/restoring.${at##*/}"/{old,new}
+: >"${at%/*}/restoring.${at##*/}/aside"
+[ "$(id -u)" != 0 ] || chown -R "$(stat -c %u:%g "${at%/*}")" "${at%/*}/restoring.${at##*/}"
+cp "$words" told_before
+verb restore --room "$PWD/conf" --undo
+holds "one that was cut off: $(cat "$work/err")" [ "$status" = 0 ]
+told_last 'is told, with no moment' '"restored": 0}'
+holds 'once more' [ "$(wc -l <"$words")" = $(($(wc -l <told_before) + 1)) ]
 python3 - "$words" >got <<'END'
 import json, sys
 rows = [json.loads(row) for row in open(sys.argv[1])]
 numbers, moments = [row["number"] for row in rows], [row["at"] for row in rows]
 print(len(set(numbers)), numbers == sorted(numbers), moments == sorted(moments))
 END
-echo '4 True True' >wanted
+echo '5 True True' >wanted
 same 'each word has a number' got wanted
 # A month later the door needs none of them.
 sed -i 's/"at": [0-9]*/"at": 1700000000000/' root/var/lib/rooms-told/conf.words

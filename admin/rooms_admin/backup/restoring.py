@@ -105,6 +105,7 @@ class Restore:
         if self.stage is None:
             return
         if is_there(self.at, self.base) and is_there(self.stage, "aside"):
+            self.tell_dates()
             self.keep_old()
             say(f"{which} was cut off when all was done: the room is the restored one")
         elif is_there(self.at, self.base) and is_there(self.old, self.base):
@@ -122,6 +123,14 @@ class Restore:
                            ) from fault
             say(f"{which} was cut off: the room is the old one again")
         self.remove_stage()
+
+    def tell_dates(self) -> None:
+        """Of what is in the room's place, as long as the mark says that it is. Which backup a run
+        had put there that was cut off, nobody knows any more."""
+        if self.dates:
+            self.dates.tell()
+        else:
+            dates.tell(self.room, "restored", 0)
 
     def put_back(self) -> None:
         if is_there(self.stage, "aside"):
@@ -218,10 +227,9 @@ class Restore:
             self.swap()
         except OSError as fault:
             raise Stop(f"the files could not be exchanged: {fault.strerror}") from fault
+        self.tell_dates()
         self.keep_old()
         self.remove_stage()
-        assert self.dates
-        self.dates.tell()
         # A unit that has given up can't be started by hand before this.
         server.systemctl("reset-failed", self.room.unit)
         print(f"restored {self.room.file} from {taken.place}")
