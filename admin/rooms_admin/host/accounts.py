@@ -1,6 +1,7 @@
 """Accounts of this machine that get to what nginx gets to."""
 import csv
 import grp
+from contextlib import suppress
 
 from .changes import NGINX
 from .root import ROOT
@@ -14,7 +15,8 @@ def beside_nginx() -> list[str]:
     except KeyError:
         return []
     found = set(group.gr_mem)
-    with open(f"{ROOT}/etc/passwd", encoding="utf-8", errors="surrogateescape") as source:
+    with suppress(FileNotFoundError), open(f"{ROOT}/etc/passwd", encoding="utf-8",
+                                           errors="surrogateescape") as source:
         for row in csv.reader(source, delimiter=":", quoting=csv.QUOTE_NONE):
             if len(row) > 3 and row[3] == str(group.gr_gid):
                 found.add(row[0])
