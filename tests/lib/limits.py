@@ -17,13 +17,19 @@
     limits.py pace PORT WHO TARGET NUMBER   by eight connections as fast as they are answered;
                                             prints with which statuses so many were, and how many
                                             more in the next five seconds
+    limits.py networks PORT TARGET NUMBER TO ADDRESS ..
+                                            so many requests without a password from each of these
+                                            addresses; prints how many were answered and refused,
+                                            and within how many seconds
     limits.py goes PORT WHO TARGET NUMBER   so many requests, whose senders are gone at once
     limits.py holds PORT WHO TARGET NUMBER  as many that nobody reads, until standard input ends;
                                             prints how many were answered with each status
 """
 import base64
 import contextlib
+import functools
 import os
+import re
 import resource
 import selectors
 import signal
@@ -217,6 +223,18 @@ def pace(port, who, target, number):
     print(f"{statuses}, and then {more}")
 
 
+def networks(port, target, count, there, *addresses):
+    met, began = Counter(), time.monotonic()
+    for address in addresses:
+        with socket.create_connection((there, int(port)), 60, (address, 0)) as one:
+            one.sendall(request(target) * (int(count) - 1)
+                        + request(target, more=b"Connection: close\r\n"))
+            told = b"".join(iter(functools.partial(one.recv, 1 << 16), b""))
+        met.update(re.findall(rb"HTTP/1\.1 (\d+) ", told))
+    refused = met.pop(b"429", 0)
+    print(f"{met.total()} answered, {refused} refused, {time.monotonic() - began:.0f} s")
+
+
 def holds(port, who, target, number):
     held, met = selectors.DefaultSelector(), Counter()
     for _ in range(int(number)):
@@ -238,4 +256,5 @@ def holds(port, who, target, number):
 
 
 {"log": log, "names": names, "streams": streams, "handshakes": handshakes,
- "goes": goes, "holds": holds, "crowd": crowd, "pace": pace}[sys.argv[1]](*sys.argv[2:])
+ "goes": goes, "holds": holds, "crowd": crowd, "pace": pace,
+ "networks": networks}[sys.argv[1]](*sys.argv[2:])

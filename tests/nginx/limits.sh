@@ -165,6 +165,32 @@ ask 'bob reads a document meanwhile' 200 x bob:b /doc/plan
 let_go
 stop_proxy
 
+# Many networks of one house, and all addresses that this machine has, fill the log no faster than
+# five. (Each of these sends 350 requests.)
+start_front 'limits of many networks' || return
+let_through() { # NAME TARGET TO MOST A-SECOND ADDRESS ..
+  limits networks "$front" "$2" 350 "$3" "${@:6}" >met
+  holds "$1: $(cat met)" awk -v most="$4" -v rate="$5" \
+    '{ exit !($1 + $3 == 7000 && $1 >= most && $1 <= most + 1 + rate * ($5 + 1)) }' met
+}
+let_through 'addresses of this machine' /doc/plan 127.0.0.1 5000 100 127.3.{1..20}.1
+let_through 'a page without a password' /rooms/style.css 127.0.0.1 5000 100 127.3.{1..20}.1
+ask 'who has a password meets no such limit' 200 x alice:a /doc/plan
+if [ "$(id -u)" = 0 ] && [ "$ROOMS_APART" = yes ] && has ip && has_six; then
+  for n in {1..20}; do
+    ip address add 192.0.2.$n/32 dev lo
+    ip address add 2001:db8:5:$n::1/128 dev lo nodad
+    ip address add 2001:db8:$n::1/128 dev lo nodad
+  done
+  let_through 'networks of one house' /doc/plan ::1 5000 100 2001:db8:5:{1..20}::1
+  let_through 'other houses' /doc/plan ::1 7000 0 2001:db8:{1..4}::1 2001:db8:{6..20}::1 \
+    2001:db8:1::1
+  let_through 'other addresses' /doc/plan 127.0.0.1 7000 0 192.0.2.{1..20}
+else
+  skip 'networks of one house' 'no root, no network of its own, no ip, or no IPv6'
+fi
+stop_proxy
+
 # By HTTP/2 a byte names a field of 4 kB that was sent once.
 if certify_front && start_front 'limits of HTTP/2' tls; then
   before=$(size_of rooms.log)
