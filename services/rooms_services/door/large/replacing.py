@@ -193,6 +193,7 @@ class Writing:
     def _make(self, number: int, body: bytes = b"") -> None:
         place = large.part(self.names, number)
         with self.room.talk(self.user) as talk:
+            self._refuse_another(talk)
             if large.is_there(talk.ask, place):
                 raise Stop(409, "left-over", "something has the name of a part", shown(place))
             reply = talk.ask(about("PUT", "doc", place, body=body))
@@ -271,6 +272,7 @@ class Writing:
         """By who manages it. The lists come first: they may be what lets somebody give it away."""
         place = large.part(self.names, number)
         with self.room.talk(self.user) as talk:
+            self._refuse_another(talk)
             wanted = self._said(talk.ask, self.names)
             if wanted is None or not all(
                     talk.ask(about("GET", "can", place, "Co")).rulings().values()):
