@@ -12,7 +12,11 @@ answers 'a document of alice' ' 204' \
 
 mkdir backups/office/2026-11-20.040000
 
-# One document out of a backup: it is changed meanwhile, and comes back.
+# Documents out of a backup: one is changed meanwhile, and comes back.
+for name in b e; do answers "the folder $name" ' 201' alice POST "/folder/letters/$name"; done
+for name in a%20%C3%BC b/c d e/f; do
+  answers "the document $name" ' 201' alice PUT "/doc/letters/$name" 'then'
+done
 bin/systemctl stop rooms
 cp room/office.rooms* backups/office/2026-11-20.040000/
 bin/systemctl start rooms
@@ -26,6 +30,31 @@ holds 'one that is not in it' [ "$status" != 0 -a ! -s "$work/out" -a ! -s none/
 answers 'replaces nothing' 'Dear Sir 200' alice GET /doc/letters/reply
 answers 'of the same owner' '{"group":"staff","kind":"document","owner":"alice"} 200' \
   alice GET /attr/letters/reply
+
+# Only what bob changed, by nginx's log: what carol wrote stays, and what bob was refused.
+for name in 'a ü' b/c d; do
+  answers "the change of $name" ' 204' alice PUT "/doc/letters/${name// ü/%20%C3%BC}" now
+done
+answers 'a folder goes' ' 204' alice DELETE /object/letters/e/f
+answers 'with what was in it' ' 204' alice DELETE /object/letters/e
+mkdir log
+log_line() { echo "192.0.2.7 - $1 [01/Dec/2026:10:00:00 +0000] \"$2\" $3 0"; } # USER REQUEST STATUS
+{ log_line bob 'PUT /drive/letters/a%20%C3%BC' 204 && log_line carol 'PUT /doc/letters/b/c' 204 &&
+  log_line bob 'PUT /doc/letters/d' 403; } >log/access.log
+{ log_line bob 'DELETE /drive/letters/e' 204 && log_line bob 'PUT /door/doc/letters/new' 201; } |
+  gzip >log/access.log.2.gz
+paste_in "cd $PWD/none && $(blocks security.md zcat | sed "s#/var/log/nginx#$PWD/log#")"
+prints 'what one account changed' 'folders 3, documents 5, left out 0' \
+  'made 2, replaced 1, there already 1, left out 0'
+holds 'and what is newer' grep -q "cannot stat 'new'" "$work/err"
+for name in 'a ü:then' b/c:now d:now e/f:then; do
+  path=${name%:*}
+  answers "$path is of ${name#*:}" "${name#*:} 200" \
+    alice GET "/doc/letters/${path// ü/%20%C3%BC}"
+done
+for path in a%20%C3%BC b/c b d e/f e; do
+  answers "$path goes again" ' 204' alice DELETE "/object/letters/$path"
+done
 
 # An upgrade: a backup, the new files, the restart; the earlier files; the earlier room.
 mkdir -p deploy run
@@ -78,6 +107,11 @@ prints_nothing 'its program runs'
 answers 'on the same room' 'Dear Sir 200' alice GET /doc/letters/reply
 if [ -n "$backup" ]; then
   answers 'a change after the backup' ' 204' alice PUT /doc/letters/reply 'Dear Madam'
+  mkdir differs
+  paste_in "cd $PWD/differs && $(blocks backup.md 'diff -rq')"
+  tail -n 1 "$work/out" >got
+  echo 'Files now/letters/reply and then/letters/reply differ' >wanted
+  same 'what differs from last night' got wanted
   paste_in "$(blocks upgrading.md 'rooms-restore 2026' | sed "s/2026-11-20.040000/${backup##*/}/")"
   holds 'the room of the backup' [ "$status" = 0 ]
   answers 'has what was there then' 'Dear Sir 200' alice GET /doc/letters/reply
@@ -158,7 +192,8 @@ echo 'number 1000' >"$night/run"
 "$rooms" dump room/office.rooms >"$night/lists.txt"
 {
   echo at,user,path,bits,granted,entry,kind &&
-    printf '1000,%s,/x,r,no,1,audit\n' 0815 815 'OFFICE\nbob' OFFICEbob
+    printf '1000,%s,/x,r,no,1,audit\n' 0815 815 'OFFICE\nbob' OFFICEbob &&
+    printf '%s,bob,/personnel/a  b,r,no,1,audit\n' 1804031999 1804032000 1805327999 1805328000
 } >"$night/records.csv"
 paste_in "$(blocks people.md 'rooms-admin lists' | sed "s|/letters|'${odd_path//\\/\\\\}'|")"
 prints 'the list of an odd path' list:ap 'A::OFFICE\nbob:C'
@@ -175,6 +210,10 @@ for name in 0815 'OFFICE\nbob'; do
   same "records of $name" got wanted
 done
 holds 'and an entry' grep -qxF 'A::OFFICE\nbob:C' "$work/out"
+paste_in "cd $PWD/none && $(blocks people.md 'records --path')"
+printf '%s\tbob\tr\tdenied\t/personnel/a\\ \\ b\taudit by entry 1\n' 2027-03-03T00:00:00Z \
+  2027-03-17T23:59:59Z >wanted
+same 'records of some days, as a table' none/records.txt wanted
 rm -r "$night"
 
 # Where groups-out or dump fails, whatever it has printed, all members stay, and the room is served.

@@ -336,6 +336,7 @@ statuses=1
 types 'how full it is' docs/capacity 'restart rooms-full@office'
 shows 'is said' '0 MB of ' ' are in use'
 types 'who was here' docs/personal 'rooms-admin records'
+types 'and between two days' docs/people 'records --path /personnel'
 statuses=1
 types 'by the log too' docs/personal 'zgrep'
 types 'old records' docs/capacity 'DELETE FROM audits'
@@ -404,12 +405,15 @@ for text in './rooms_' 'cp -a /mnt' 'do rooms-admin restore' reload-or-restart m
   'dpkg --compare' '--timeout 600'; do
   block_of docs/backup "$text"
 done >>typed
-# What would come of a list, by last night's, and documents by sqlite3: docs/pasted-back pastes
-# both.
+# What would come of a list, by last night's; documents by sqlite3; all that differs from last
+# night: docs/pasted-back pastes them.
 block_of docs/lists 'rooms-admin would set' >>typed
 block_of docs/in-and-out writefile >>typed
+block_of docs/backup 'diff -rq' >>typed
 # Whose access ends, by last night's too: docs/as-pasted pastes it.
 block_of docs/people ':until' >>typed
+# Whence one of several rooms is reached: nginx/site pastes it.
+block_of docs/people 'geo $inside' >>typed
 # Blocks of several machines: nginx/machines, machine/new-machine and admin/standby paste them.
 for text in 'certificate --machine' 'add --behind' 'add --on' \
   -mmin 'start "rooms-nightly@' 'now "rooms@$room"'; do
