@@ -18,7 +18,7 @@ from rooms_services.room import answers, room
 from rooms_services.room.answers import Stop
 from rooms_services.room.room import listed
 from rooms_services.door.folders import archive, walk, zipped
-from rooms_services.door.webdav import dates, looking, trees
+from rooms_services.door.webdav import dates, looking, properties, trees
 
 MEGABYTE = 1 << 20
 
@@ -66,6 +66,35 @@ class Memory(Over):
         self.assertLess(self.peak("POST", "/door/remove/", body=json.dumps([first]),
                                   If_Match="*"), MEGABYTE)
         self.assertEqual(set(self.room.objects), {()})
+
+    def test_many_that_may_not_go(self) -> None:
+        """Of 600 at paths of 2 MB some are named, and how many more there are is said."""
+        self.room.make(to=None)
+        top, deepest = self.above[0], "/" + "/".join(self.above)
+        self.room.denied .add(("alice", deepest, "D"))
+        for number in range(600):
+            self.room.objects[(*self.above, f"{number}")] = b""
+            self.room.denied |= {("alice", f"{deepest}/{number}", bit) for bit in "rd"}
+        self.refused("DELETE", f"/drive/{top}")
+        self.refused("COPY", f"/drive/{top}", Destination="/drive/copy")
+        self.refused("MOVE", "/drive/to", Destination=f"/drive/{top}")
+        with mock.patch.object(properties, "MOST_FAILED", 70):
+            self.assertEqual(self.refused("DELETE", f"/drive/{top}"), 71)
+        self.assertEqual(len(self.room.objects), 616)
+
+    def refused(self, method: str, target: str, **fields: str) -> int:
+        tracemalloc.start()
+        try:
+            status, _, body = self.ask(method, target, **fields)
+            taken = tracemalloc.get_traced_memory()[1]
+        finally:
+            tracemalloc.stop()
+        self.assertEqual(status, 207, body)
+        rows = ElementTree.fromstring(body)
+        self.assertEqual(rows[-1].text, f"and {600 - len(rows) + 1} more")
+        self.assertLess(len(body), MEGABYTE + 10_000)
+        self.assertLess(taken, 3 * MEGABYTE)
+        return len(rows)
 
     def test_what_would_be_too_long_is_not_begun(self) -> None:
         for number in range(300):

@@ -25,6 +25,8 @@ FORGOTTEN = "urn:schemas-microsoft-com:"
 OWNCLOUD = "http://owncloud.org/ns"
 SUMS = OWNCLOUD, "checksums"
 MOST_ASKED = 16_384
+# How many of what failed an answer names, and in how many bytes.
+MOST_FAILED, LONGEST_FAILED = 1000, 1 << 20
 # For these the door has to read the whole document.
 OF_BYTES = {SUMS, (DAV, "getcontentlength"), (DAV, "getetag"), (DAV, "getlastmodified")}
 
@@ -133,8 +135,20 @@ def _parts(responses: Iterable[str]) -> Iterator[bytes]:
     yield b"</D:multistatus>\n"
 
 
-def failed(prefix: str, failures: Iterable[Failure]) -> Answer:
-    return several(
-        f"<D:response><D:href>{href(prefix, names, folder)}</D:href>{_status(status)}"
-        f"<D:responsedescription>{legal(text)}</D:responsedescription></D:response>"
-        for names, folder, status, text in failures)
+def failed(prefix: str, failures: Sequence[Failure]) -> Answer:
+    return several(_named(prefix, failures))
+
+
+def _named(prefix: str, failures: Sequence[Failure]) -> Iterator[str]:
+    """The first of them, and how many more there are: there may be ten thousand, at long paths."""
+    size = count = 0
+    for names, folder, status, text in failures[:MOST_FAILED]:
+        row = (f"<D:response><D:href>{href(prefix, names, folder)}</D:href>{_status(status)}"
+               f"<D:responsedescription>{legal(text)}</D:responsedescription></D:response>")
+        size += len(row)
+        if count and size > LONGEST_FAILED:
+            break
+        count += 1
+        yield row
+    if count < len(failures):
+        yield f"<D:responsedescription>and {len(failures) - count} more</D:responsedescription>"
