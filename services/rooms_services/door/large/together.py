@@ -136,12 +136,13 @@ def _all_of(ask: Asks, names: Names, count: int, used: Collection[int]) -> Itera
             yield number
 
 
-def _reached(ask: Asks, names: Names, rest: Rest | None) -> Iterable[int]:
+def _reached(ask: Asks, names: Names, rest: Rest | None) -> tuple[Iterable[int], Same | None]:
     """The parts at which a list or an owner is set with the document's."""
     count = large.count_of(ask, names, rest)
-    if count:
-        return _all_of(ask, names, count, _used(_seen(ask, names), count))
-    return large.beside(ask, names)
+    if not count:
+        return large.beside(ask, names), None
+    seen = _seen(ask, names)
+    return _all_of(ask, names, count, _used(seen, count)), _same(ask, names, seen)
 
 
 def _place(names: Names, number: int) -> Names:
@@ -161,7 +162,8 @@ def set_at_all(ask: Asks, route: str, names: Names, body: bytes, rest: Rest | No
     already, by a request that was killed."""
     right = "o" if route == "attr" else "C"
     if _may(ask, names, right):
-        for number in large.resting(_reached(ask, names, rest), rest):
+        reached, same = _reached(ask, names, rest)
+        for number in large.resting(reached, rest, same):
             place = large.part(names, number)
             if _may(ask, place, right):
                 reply = ask(about("PUT", route, place, body=body))
@@ -194,7 +196,7 @@ def given(room: Room, user: str, names: Names, body: bytes) -> Answer:
     else is wrong with it is for the room to say."""
     understood = attributes_in(body)
     with alone(room, user, names), room.talk(user) as talk:
-        if understood is None and any(_reached(talk.ask, names, talk.rest)):
+        if understood is None and any(_reached(talk.ask, names, talk.rest)[0]):
             raise Stop(400, "bad-body", "neither owner nor group can be read", shown(names))
         if understood is None:
             return talk.ask(about("PUT", "attr", names, body=body)).answer()
