@@ -85,7 +85,7 @@ def _tells(room: Room) -> bool:
         return room.unit == "rooms@office"
     names = sorted(map(settings.name_of, glob.glob(glob.escape(settings.HOME) + "/*.conf")))
     for name in sorted(names, key=lambda one: one != "office"):
-        if printed(["systemctl", "is-active", f"rooms-nightly@{name}.timer"]) == "active":
+        if printed(["systemctl", "is-active", f"{settings.nightly_unit(name)}.timer"]) == "active":
             return name == room.name
     return False
 
