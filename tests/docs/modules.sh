@@ -130,6 +130,22 @@ echo '## low: a part' >house/modules.txt
 house/tools/modules --check >found
 holds 'another list' grep -q 'low/README.md has another list' found
 
+# The budgets that the page tells are the units'.
+python3 "$here/docs/budgets.py" "$repo/docs/security.md" "$repo/deploy/systemd" >found 2>&1
+same 'budgets are what units say' found /dev/null
+mkdir units
+cp "$repo"/deploy/systemd/rooms-{earlier,port@,scan@,texts,would@}.service \
+  "$repo"/deploy/systemd/rooms-{scan,would}.socket units/
+sed -i 's/^MemoryMax=.*/MemoryMax=300M/' units/rooms-earlier.service
+sed -i '/^TasksMax=/d' units/rooms-port@.service
+sed -i 's/^MaxConnections=.*/MaxConnections=3/' units/rooms-scan.socket
+grep -v '`rooms-texts`' "$repo/docs/security.md" >page.md
+python3 "$here/docs/budgets.py" page.md units | sort >found
+printf '%s\n' 'rooms-earlier: MemoryMax 512M by the page, 300M' \
+  'rooms-port@: TasksMax 160 by the page, None' \
+  'rooms-scan@: MaxConnections 2 by the page, 3' 'rooms-texts has no row' >wanted
+same 'others are found' found wanted
+
 # Each file has parts that try it, and each part is one that some file has.
 . "$here/lib/parts.sh"
 (cd "$repo" &&

@@ -40,12 +40,16 @@ probed() { # NAME UNIT WHAT-IT-CAN-DO ..
   printf '%s\n' "${@:3}" >wanted
   same "$1: what it can do" did wanted
 }
-# The numbers of the table of budgets, which are tried where this machine can hold anybody to them.
-bounded() { # NAME UNIT TASKS MEGABYTES
-  local more=$(($4 * 5 / 4)) limits
+# The numbers of the table of budgets: what a unit says,
+limited() { # NAME UNIT TASKS MEGABYTES
   inside "systemctl show $2 -p MemoryMax -p TasksMax"
   printf '%s\n' "MemoryMax=$(($4 << 20))" "TasksMax=$3" >wanted
   same "$1: what its unit says" "$work/out" wanted
+}
+# which is tried where this machine can hold anybody to it.
+bounded() { # NAME UNIT TASKS MEGABYTES
+  local more=$(($4 * 5 / 4)) limits
+  limited "$@"
   inside 'cat /sys/fs/cgroup/cgroup.controllers'
   limits=" $(cat "$work/out") "
   if [[ $limits != *' memory '* || $limits != *' pids '* ]] ||
@@ -95,8 +99,19 @@ by_apache=('read /etc/rooms/office.conf' 'read /etc/nginx/nginx.conf' 'list /var
 probed 'in the place of what asks a directory' rooms-passwords "${by_apache[@]}"
 bounded 'what asks a directory' rooms-passwords 256 512
 becomes= bounded 'what opens nights' rooms-nights 96 1536
+becomes= bounded 'what listens at a port' rooms-port@office 160 128
+becomes= bounded 'a watch' rooms-full@office 32 256
+becomes= bounded 'what sends mail' rooms-tell@probe 128 512
+# These begin by a connection, or see no program of ours.
+limited 'the text of a scan' rooms-scan@probe 8 512
+limited 'who keeps texts' rooms-texts 32 384
+limited "a night's texts" rooms-texts-night@office 16 512
+limited 'the judge of earlier nights' rooms-earlier 96 512
+limited 'an own password' rooms-own-password@probe 8 64
+limited 'who writes own passwords' rooms-password-file@probe 4 96
 does 'the unit of the page' "$(block docs/directory.md '[Service]' | sed '/^systemctl /d')"
 probed 'in the place of what has sessions' rooms-session "${by_apache[@]}"
+bounded 'what has sessions' rooms-session 256 512
 
 # What says what would come of a change: whoever asks has its output. Python needs files that its
 # unit hides, and calls about files that it refuses; and another question waits, whose process it
