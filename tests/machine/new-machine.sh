@@ -326,9 +326,17 @@ is_back() { # NAME: what comes back is what was sent
   prints "$1: is what is finished" ./2026-11-20.030000/office.rooms one
 }
 if has restic && has rclone; then
+  does 'where copies go' '/usr/local/sbin/rooms-offsite --new'
   sends
   holds "copies by restic: $(head -c 300 "$work/err")" [ "$status" = 0 ]
   is_back 'what comes back'
+  does 'that disk has died' 'cd /srv/rooms-copies && mv restic kept &&
+    install -d -m 700 -o rooms-copies restic'
+  sends
+  holds 'that is told' [ "$status" != 0 ]
+  does 'and nothing begins anew there' '[ -z "$(ls /srv/rooms-copies/restic)" ]'
+  does 'it is there again' 'cd /srv/rooms-copies && rmdir restic && mv kept restic &&
+    /usr/local/sbin/rooms-offsite --new'
   kept before
   for words in 'forget --keep-last 1 --keep-daily 1 latest' 'forget latest --prune' \
     'key remove 0' 'init'; do
