@@ -78,7 +78,7 @@ class Needs(Folder):
         self.has(0, 0)
         for module, name, value in ((needs, "FOLDER", f"{self.home}/var/lib/rooms-need"),
                                     (root, "ROOT", self.home),
-                                    (limit, "_allowed", lambda unit: self.allowed[unit]),
+                                    (limit, "_allowed", lambda room, unit: self.allowed[unit]),
                                     (limit, "_count", lambda: 1)):
             patched = patch.object(module, name, value)
             patched.start()
@@ -182,6 +182,23 @@ class Needs(Folder):
         with contextlib.redirect_stderr(io.StringIO()):
             run.note_need()
         self.assertIn("rooms-need can't be written: ", run.failures[0])
+
+
+class Noted(Folder):
+    def test_a_watch_asks_nobody(self) -> None:
+        """What systemd says of a server's memory is written down for it, in whatever order."""
+        room = dataclasses.replace(self.settings("office"), limit="")
+        for noted, wanted in (
+                ("MemoryMax=1073741824\nId=rooms@office.service\n\nId=rooms.slice\n"
+                 "MemoryMax=infinity\n", 816),
+                ("Id=rooms@office.service\nMemoryMax=infinity\n\nMemoryMax=2147483648\n"
+                 "Id=rooms.slice\n", None)):
+            with open(f"{self.home}/{room.name}", "w", encoding="ascii") as out:
+                out.write(noted)
+            with patch.object(limit, "_NOTED", self.home), patch.object(root, "ROOT", self.home), \
+                    patch.object(os, "geteuid", lambda: 65534), \
+                    patch.object(limit, "systemctl", side_effect=AssertionError):
+                self.assertEqual(limit.of(room), wanted)
 
 
 class Holders(Folder):

@@ -122,8 +122,10 @@ for number in range(30000):
     with contextlib.suppress(OSError):
         at.sendmsg([b"x"], [(socket.IPPROTO_IP, 8, source)], 0, ("127.0.0.1", 9))
 END
-does 'an account sends to as many as it likes' 'at=/proc/sys/net/netfilter/nf_conntrack_count
-  before=$(cat $at); setpriv --reuid=nobody --regid=nogroup --clear-groups \
+# Those of before go within ten seconds.
+settled='at=/proc/sys/net/netfilter/nf_conntrack_count
+  for turn in {1..300}; do [ $(cat $at) -ge 100 ] || break; sleep 0.1; done; before=$(cat $at)'
+does 'an account sends to as many as it likes' "$settled"'; setpriv --reuid=nobody --regid=nogroup --clear-groups \
     python3 -I /usr/local/lib/fills.py; echo $(($(cat $at) - before))'
 holds "the table has few of them: $(cat "$work/out")" [ "$(cat "$work/out")" -lt 5000 ]
 holds 'and was asked for them' [ "$(cat "$work/out")" -gt 1000 ]
@@ -146,8 +148,7 @@ while time.monotonic() < ends:
         except OSError:
             pass
 END
-does 'an account begins and ends as many as it likes' '
-  at=/proc/sys/net/netfilter/nf_conntrack_count; before=$(cat $at)
+does 'an account begins and ends as many as it likes' "$settled"'
   for each in 1 2 3; do setpriv --reuid=nobody --regid=nogroup --clear-groups \
     python3 -I /usr/local/lib/ends.py & done; wait; echo $(($(cat $at) - before))'
 holds "the table has few of these: $(cat "$work/out")" [ "$(cat "$work/out")" -lt 9000 ]

@@ -1,8 +1,10 @@
 """For tests: what a program in the place of a service can do, a line for each thing that it can."""
 import contextlib
+import ctypes
 import os
 import signal
 import socket
+import stat
 import subprocess
 
 can = []
@@ -37,6 +39,39 @@ def reaches(path):
 
 def calls(*words):
     subprocess.run(words, check=True, capture_output=True, timeout=20)
+
+
+# Where somebody may be asked.
+PLACES = ("/run/rooms/office/socket", "/run/rooms/invoices/socket",
+          "/run/rooms-server/office/socket", "/run/rooms-server/invoices/socket",
+          "/run/rooms-front/passwords.sock", "/run/rooms-own-password/socket",
+          "/run/rooms-nights/socket", "/run/rooms-earlier/socket", "/run/rooms-picture/socket",
+          "/run/rooms-texts/socket", "/run/rooms-extract/socket", "/run/rooms-scan/socket",
+          "/run/rooms-would/socket", "/run/dbus/system_bus_socket", "/run/systemd/private")
+
+
+def reaches_another():
+    """Of /run: what answers there may ask other machines."""
+    for above, _, names in os.walk("/run"):
+        for path in (os.path.join(above, name) for name in names):
+            # (Who waits for a server listens at a place of its own.)
+            if path in PLACES or path.startswith("/run/rooms-wait/") or not stat.S_ISSOCK(
+                    os.lstat(path).st_mode):
+                continue
+            for kind in (socket.SOCK_STREAM, socket.SOCK_DGRAM, socket.SOCK_SEQPACKET):
+                with contextlib.suppress(OSError), socket.socket(socket.AF_UNIX, kind) as asking:
+                    asking.settimeout(3)
+                    asking.connect(path)
+                    return
+    raise OSError
+
+
+def asks_for_a_key():
+    """For what nobody has, the kernel starts a program of root's."""
+    ctypes.set_errno(0)
+    called = ctypes.CDLL(None, use_errno=True).syscall
+    if called(249, b"user", b"rooms:probe", None, 0) < 0 and ctypes.get_errno() == 1:
+        raise OSError
 
 
 def goes_out():
@@ -78,17 +113,13 @@ def on_disk():
 
 def main():
     on_disk()
-    for path in ("/run/rooms/office/socket", "/run/rooms/invoices/socket",
-                 "/run/rooms-server/office/socket", "/run/rooms-server/invoices/socket",
-                 "/run/rooms-front/passwords.sock", "/run/rooms-own-password/socket",
-                 "/run/rooms-nights/socket", "/run/rooms-earlier/socket",
-                 "/run/rooms-picture/socket", "/run/rooms-texts/socket",
-                 "/run/rooms-extract/socket", "/run/rooms-scan/socket", "/run/rooms-would/socket",
-                 "/run/dbus/system_bus_socket", "/run/systemd/private"):
+    for path in PLACES:
         tries(f"ask {path}", lambda path=path: reaches(path))
+    tries("ask others at /run", reaches_another)
     tries("ask 127.0.0.1:80", goes_out)
     with contextlib.suppress(OSError):
         os.close(os.open("/var/tmp/probe", os.O_CREAT | os.O_WRONLY, 0o600))
+    tries("ask for a key", asks_for_a_key)
     tries("give a file to root", owns)
     tries("make a file that runs as its owner", lambda: os.chmod("/var/tmp/probe", 0o4755))
     tries("mount", lambda: calls("mount", "-t", "tmpfs", "x", "/mnt"))

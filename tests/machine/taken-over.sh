@@ -66,8 +66,7 @@ probed 'in the place of a door' rooms-door@office \
   'ask /run/rooms/invoices/socket' 'ask /run/rooms-picture/socket' 'ask /run/rooms-would/socket'
 probed 'in the place of a watch' rooms-full@office \
   'read /etc/rooms/office.conf' 'read /etc/nginx/nginx.conf' 'list /var/lib/rooms' \
-  'list /var/log/nginx' 'write /run/rooms-full' 'write /var/tmp' \
-  'ask /run/dbus/system_bus_socket'
+  'list /var/log/nginx' 'write /run/rooms-full' 'write /var/tmp'
 # It is the server itself: nobody listens in its place.
 probed 'in the place of a server' rooms@office \
   'read /etc/rooms/office.conf' 'read /etc/nginx/nginx.conf' 'list /var/lib/rooms' \
@@ -90,12 +89,12 @@ probed 'in the place of who waits' rooms-wait@office \
 probed 'in the place of what sends mail' rooms-tell@probe \
   'read /etc/rooms/office.conf' 'read /etc/nginx/nginx.conf' 'list /var/log/nginx' \
   'write /run/lock' 'write /var/tmp' 'write /dev/shm' 'make a folder' \
-  'ask /run/dbus/system_bus_socket' 'ask 127.0.0.1:80' 'make a file that runs as its owner' \
-  'a namespace' 'see processes of others'
+  'ask /run/dbus/system_bus_socket' 'ask others at /run' 'ask 127.0.0.1:80' \
+  'make a file that runs as its owner' 'a namespace' 'see processes of others'
 # Apache's processes that answer: nginx believes what they say of a password or a session.
 becomes=rooms-passwords
 by_apache=('read /etc/rooms/office.conf' 'read /etc/nginx/nginx.conf' 'list /var/log/nginx'
-  'write /var/tmp' 'ask 127.0.0.1:80')
+  'write /var/tmp' 'ask others at /run' 'ask 127.0.0.1:80')
 probed 'in the place of what asks a directory' rooms-passwords "${by_apache[@]}"
 bounded 'what asks a directory' rooms-passwords 256 512
 becomes= bounded 'what opens nights' rooms-nights 96 1536

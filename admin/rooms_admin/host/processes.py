@@ -18,8 +18,9 @@ _LATE, _AT_MOST, _SET_TURN = 29, 50_000, 251
 # refuses some calls, and all in the form of another one.
 _NO_MORE_RIGHTS, _SET_FILTER, _BY_ROWS = 38, 22, 2
 _LOAD, _IS, _IS_FROM, _RETURN = 0x20, 0x15, 0x35, 0x06
-# What makes sockets, folders, and a ring by which either could be made.
-_SOCKETS, _FOLDERS, _RING = (41,), (83, 258), 425
+# What makes sockets, or asks for a key, for which the kernel starts a program of root's; folders;
+# and a ring by which these could be made.
+_OTHERS, _FOLDERS, _RING = (41, 248, 249, 250), (83, 258), 425
 
 
 def _refusing(*calls: int) -> "ctypes.Array[ctypes.c_char]":
@@ -35,7 +36,7 @@ def _refusing(*calls: int) -> "ctypes.Array[ctypes.c_char]":
 
 _KEPT: list[object] = []
 _IS_THAT_ONE = platform.machine() == "x86_64"
-_WITHOUT_SOCKETS, _WITHOUT_FOLDERS = (_refusing(*calls, _RING) for calls in (_SOCKETS, _FOLDERS))
+_WITHOUT_OTHERS, _WITHOUT_FOLDERS = (_refusing(*calls, _RING) for calls in (_OTHERS, _FOLDERS))
 
 
 def _refuse(calls: "ctypes.Array[ctypes.c_char]") -> None:
@@ -61,7 +62,7 @@ def hand_on_no_right() -> None:
 def reach_nobody() -> None:
     """For a child that reads what somebody else has made, and which that might take over: it makes
     no connection, to another machine or to a service of this one."""
-    _refuse(_WITHOUT_SOCKETS)
+    _refuse(_WITHOUT_OTHERS)
 
 
 def make_no_folders() -> None:

@@ -1,15 +1,18 @@
 """How much of its file a room may have in use, so that its server can start again, and the nightly
 run beside it. All numbers are megabytes, of 1,048,576 bytes."""
 import glob
+import os
 import re
 
 from ..cli.report import Stop
-from ..host import root
+from ..host import locks, root
 from . import needs, settings
 from .server import systemctl
 from .settings import Room
 
 _SLICE = "rooms.slice"
+# What systemd said of both, for each room, when the watch over its size was started.
+_NOTED, _MOST = os.path.join(locks.RUN, "rooms-memory"), "MemoryMax="
 # What a start that was measured at night may miss of its memory; and what the machine has for all
 # else.
 _SPARE, _ELSE = 32, 256
@@ -51,21 +54,20 @@ def lacks_swap(room: Room, used: int) -> int:
 def _memory(room: Room) -> int | None:
     """What a start may have. What it needs and nobody reads again can be in swap, half of which is
     left for the nightly runs, which start the program on the copy."""
-    most = _allowed(room.unit)
+    most = _allowed(room, room.unit)
     if most is None:
         return None
     count = _count()
-    together = _allowed(_SLICE)
+    together = _allowed(room, _SLICE)
     if together is not None:
         most = min(most, together // count)
     return most + _has("SwapTotal") // 2 // count
 
 
-def _allowed(unit: str) -> int | None:
+def _allowed(room: Room, unit: str) -> int | None:
     """What MemoryMax of a unit allows; None is without end, or a unit that isn't there. Of one that
-    runs the kernel says it: the watch over a room's size isn't root, and may find all connections
-    of the system's bus taken, by which it would ask systemd."""
-    most = _of_group(unit)
+    runs the kernel says it. The watch over a room's size asks nobody: it has what was noted."""
+    most = _of_group(unit) or ("" if os.geteuid() == 0 else _noted(room, unit))
     if not most:
         status, most = systemctl("show", "-p", "MemoryMax", "--value", unit)
         if status != 0:
@@ -81,6 +83,21 @@ def _of_group(unit: str) -> str:
             return source.read().strip()
     except OSError:
         return ""
+
+
+def _noted(room: Room, unit: str) -> str:
+    """Nothing where nobody has started that watch."""
+    name = unit if unit == _SLICE else f"{unit.removesuffix('.service')}.service"
+    try:
+        with open(os.path.join(_NOTED, room.name), encoding="ascii") as source:
+            units = source.read().split("\n\n")
+    except OSError:
+        return ""
+    for rows in (text.split("\n") for text in units):
+        if f"Id={name}" in rows:
+            found = [one for one in rows if one.startswith(_MOST)]
+            return found[0].removeprefix(_MOST) if found else ""
+    return ""
 
 
 def _count() -> int:
