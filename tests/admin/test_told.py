@@ -133,7 +133,8 @@ class Told(unittest.TestCase):
     def test_each_unit_that_asks_for_it(self) -> None:
         """Also sockets, such as that of a room's port, which another program may have."""
         folder = pathlib.Path(__file__).parents[2] / "deploy/systemd"
-        units = [one.name.replace("@.", "@office.") for one in folder.iterdir()
+        units = [one.name.replace("@.", "@office.").removesuffix(".conf")
+                 for one in folder.iterdir()
                  if "OnFailure=rooms-tell@" in one.read_text(encoding="utf-8")]
         self.assertIn("rooms-port@office.socket", units)
         with unittest.mock.patch.object(verb_tell, "mail_of", return_value=""):
