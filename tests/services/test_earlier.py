@@ -210,6 +210,30 @@ class Large(Over):
         self.assertEqual(answer.body, listing.body)
         self.assertLess(taken, 7900 * 150)
 
+    def test_listings_of_all_rooms_together(self) -> None:
+        """One goes on beyond what they may have, and until it is sent the rest is for later."""
+        for room in (self.now, self.then):
+            room.objects |= {("letters", f"{number:05}"): b"" for number in range(100)}
+            room.make(short=None, short__a=b"")
+        is_ready, is_sent = threading.Event(), threading.Event()
+
+        def one() -> None:
+            with self.judge.answered(self.fields("alice", "folder/letters")):
+                is_ready.set()
+                is_sent.wait(60)
+        with mock.patch.object(judge, "LISTINGS", 1000), mock.patch.object(judge, "SHORT", 500):
+            self.judge = judge.Judge()
+            thread = threading.Thread(target=one)
+            thread.start()
+            is_ready.wait(60)
+            for word in ("folder", "zip"):
+                self.assertEqual(self.told("bob", f"{word}/letters"), (503, {"why": "busy"}))
+            self.assertEqual(self.names("bob", "folder/short"), ["a"])
+            is_sent.set()
+            thread.join()
+            self.assertEqual(self.told("bob", "zip/letters")[0], 200)
+            self.assertEqual(len(self.names("bob", "folder/letters")), 101)
+
     def test_a_zip_of_what_is_far_down(self) -> None:
         """Ten thousand paths of two thousand names would be 160 MB, and their texts as much."""
         names = [{"kind": "document", "name": f"{number:05}"} for number in range(1000)]

@@ -10,7 +10,7 @@ import socket
 import threading
 import traceback
 from collections import Counter
-from collections.abc import Iterator
+from collections.abc import Callable, Iterator
 from contextlib import contextmanager
 
 from rooms_admin.cli.report import say
@@ -21,7 +21,7 @@ from .. import listening, scgi
 from ..room.answers import Answer, Stop, told
 from ..room.paths import Names, chosen_in, names_in
 from ..room.room import Room
-from ..room.turns import RUNNING, WAITING, Users
+from ..room.turns import RUNNING, WAITING, Held, Users
 from . import gate
 from .judging import LISTED, Look
 from .whole import archive
@@ -31,6 +31,9 @@ from .whole import archive
 # answered: so two who ask again and again keep nobody from a room's nights. ZIPs at once, which may
 # be taken slowly. Seconds until it ends if nobody asks.
 MOST, OF_ONE, LEFT, ZIPS, IDLE = 64, 24, 8, 8, 600.0
+# Bytes of listings of all rooms that are under way, each of which takes three times as much; those
+# that are short aren't counted.
+LISTINGS, SHORT = 96 << 20, 65_536
 # How long a copy may take for an answer. (A server reads nothing of the disk for one.)
 PATIENCE = float(os.environ.get("ROOMS_NIGHTS_PATIENCE", "20"))
 _TARGET = re.compile(r"/earlier/(?:(nights)|(\d{4}-\d\d-\d\d\.\d{6})/(?:(doc|folder|dacl)/([^?]*)|"
@@ -40,8 +43,9 @@ _TARGET = re.compile(r"/earlier/(?:(nights)|(\d{4}-\d\d-\d\d\.\d{6})/(?:(doc|fol
 class Today:
     """A room of today, and who asks about its nights: so many at once, of one user and of all."""
 
-    def __init__(self, name: str) -> None:
+    def __init__(self, name: str, lists: Callable[[int], None] | None = None) -> None:
         self.room = Room(os.path.join(locks.RUN, "rooms", name, "socket"), most=LISTED)
+        self.room.lists = lists
         self.users = Users()
         self._lock = threading.Lock()
         # Of whom how many are under way.
@@ -75,12 +79,18 @@ class Judge:
         self._rooms: dict[str, Today] = {}
         self._zips = threading.BoundedSemaphore(ZIPS)
         self._secret = secrets.token_bytes(16)
+        self._held = Held(LISTINGS)
         # How many of these there are.
         self.under_way = 0
 
     def _today(self, name: str) -> Today:
         with self._lock:
-            return self._rooms.setdefault(name, Today(name))
+            return self._rooms.setdefault(name, Today(name, self._lists))
+
+    def _lists(self, size: int) -> None:
+        """Nobody waits for others here, who may be about a room that hangs."""
+        if size > SHORT:
+            self._held.take(size, 0.0)
 
     @contextmanager
     def answered(self, fields: dict[str, str]) -> Iterator[Answer]:
@@ -98,13 +108,16 @@ class Judge:
         today = self._today(name)
         if folder is not None:
             with self._zip(today, user):
-                yield archive(lambda word, path: self._looked(today, name, user, night, word, path),
+                yield archive(lambda word, path: self._of_zip(today, name, user, night, word, path),
                               lambda reply: today.room.denials.note(user, reply),
                               names_in(folder), chosen_in(query) if query else None)
             return
         with today.turn(user, word):
-            yield told(gate.nights(name)) if listed else self._looked(
-                today, name, user, night, word, names_in(rest))
+            try:
+                yield told(gate.nights(name)) if listed else self._looked(
+                    today, name, user, night, word, names_in(rest))
+            finally:
+                self._held.give()
 
     @contextmanager
     def _zip(self, today: Today, user: str) -> Iterator[None]:
@@ -120,6 +133,14 @@ class Judge:
                 self.under_way -= 1
             self._zips.release()
 
+    def _of_zip(self, today: Today, name: str, user: str, night: str, word: str, path: Names
+                ) -> Answer:
+        """One folder after the other."""
+        try:
+            return self._looked(today, name, user, night, word, path)
+        finally:
+            self._held.give()
+
     def _looked(self, today: Today, name: str, user: str, night: str, word: str, path: Names
                 ) -> Answer:
         """A copy whose server was killed, or hangs, is opened anew; once for one request."""
@@ -130,6 +151,7 @@ class Judge:
         except Stop as stop:
             if stop.why not in ("room-ended", "room-hangs", "no-room") or look.then is None:
                 raise
+        self._held.give()
         gate.ended(name, night)
         look = Look(today.room, user, word, path)
         return look.answer(lambda: gate.opened(name, night, asker), PATIENCE)

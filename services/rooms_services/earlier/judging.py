@@ -60,6 +60,7 @@ class Look:
             return stopped
         night = opened()
         self.then, self.shown_to = Room(night.place, patience, LISTED), night.shown_to
+        self.then.lists = self.today.lists
         # (that took a while, in which another object may have come to the path)
         seen = self._at(self.names, self.word)
         if stopped := self._stopped(seen.reply):

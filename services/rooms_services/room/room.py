@@ -319,6 +319,8 @@ class Talk:
         self.taken += length
         self._since = min(self._since, self._room.clock())
         status = int(line[9:12])
+        if ask.route == "folder" and self._room.lists:
+            self._room.lists(min(length, self._room.most))
         return Reply(status, self._body(length, ask.is_bare and status == 200))
 
     def _body(self, length: int, is_bare: bool) -> bytes:
@@ -414,6 +416,8 @@ class Room:
         self.denials = Denials()
         self.changes = Changes()
         self.held = Held()
+        # Is told how long a listing is before it is read, and may refuse it.
+        self.lists: Callable[[int], None] | None = None
         self.note = note
         self.clock = time.monotonic
         self._turn = InTurn()
