@@ -332,8 +332,9 @@ takes=$(curl -s -o /dev/null -w '%{time_total}' -u alice:a \
   "$base/earlier/2026-11-11.030000/doc/letters/reply")
 wait "$asking"
 echo "  a hundred at once: $(codes_of); another user: $takes s"
+# (503 where alice has one of the places meanwhile that one user may fill)
 holds "some are refused, and none is lost: $(codes_of)" \
-  [ "$(grep -cx -e 200 -e 429 codes)" = 100 ]
+  [ "$(grep -cx -e 200 -e 429 -e 503 codes)" = 100 ]
 holds "alice waits for $takes s" awk -v took="$takes" 'BEGIN { exit !(took < 5) }'
 # More than all may have.
 sleep 1.1
