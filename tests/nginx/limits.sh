@@ -163,6 +163,17 @@ held "listings of $listing bytes" bob:b /folder/many 40 '200: 16 429: 24'
 holds "16 of them wait on the disk at most: $(waiting)" [ "$(waiting)" -le $((16 * listing)) ]
 ask 'bob reads a document meanwhile' 200 x bob:b /doc/plan
 let_go
+# What lies below many folders is asked by few at once.
+deep=
+for n in {1..18}; do
+  deep+=/d
+  curl -s -o /dev/null --unix-socket "$place" -H 'Room-User: alice' -X POST "http://x/folder$deep"
+done
+ask 'the same below many folders' 204 '' alice:a /move/many -X POST -d "{\"to\":\"$deep/many\"}"
+held 'listings below many folders' bob:b "/folder$deep/many" 10 '200: 2 429: 8'
+let_go
+printf -v deep '/d%.0s' {1..104}
+ask 'more folders than anybody has' 400 - alice:a "/can$deep"
 stop_proxy
 
 # Many networks of one house, and all addresses that this machine has, fill the log no faster than
