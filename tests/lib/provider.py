@@ -6,11 +6,13 @@ file.
 KEY is an RSA key, and CLAIMS a file with a JSON object, which is read anew at each sign-in. Where
 it has "error", the provider refuses the sign-in with that word; "nonce", "aud", "iss" and "exp"
 replace what belongs there. A second KEY, where there is one, signs in its place, and isn't among
-the keys that it tells.
+the keys that it tells. While there is a file 'hangs', what asks for a token waits, and is a byte of
+the file 'waiting'.
 """
 
 import base64
 import json
+import os
 import secrets
 import subprocess
 import sys
@@ -90,6 +92,11 @@ class Provider(BaseHTTPRequestHandler):
 
     def do_POST(self):
         body = self.rfile.read(int(self.headers['Content-Length'])).decode()
+        if os.path.exists('hangs'):
+            with open('waiting', 'a', encoding='utf-8') as file:
+                file.write('.')
+        while os.path.exists('hangs'):
+            time.sleep(0.1)
         asked, claims = codes.pop(dict(urllib.parse.parse_qsl(body)).get('code'), (None, None))
         if asked is None:
             self.reply(400, {'error': 'invalid_grant'})

@@ -227,6 +227,49 @@ kill -CONT "$idp"
 signs_in alice
 with alice 'one that is back' 200 hello /doc/f
 
+# Nor does whoever signs in wait for long where only what gives out sessions hangs.
+: >hangs
+signs_in two
+holds "a sign-in is given up: $ended" eval '[[ "$ended" = [245]??\ */rooms/signed-in* ]]'
+rm hangs
+# However long they would wait: of one network so many do, and of all half of what Apache answers.
+kill "$httpd"
+wait "$httpd" 2>/dev/null
+sed -i 's/^\(OIDCHTTPTimeout[A-Za-z]*\) .*/\1 600/' session.apache
+sed -i -e 's/worker_connections 256/worker_connections 1024/' \
+  -e 's/^http {/& proxy_read_timeout 600s;/' nginx.conf
+reload_front
+start_sessions || fail 'Apache once more' "$(head -c 300 apache.out apache.log)"
+signs_in alice
+holds 'somebody begins to sign in' reaches 302 "${browser[@]}" -c begun /doc/f
+state=$(sed -n 's/^Location: .*[?&]state=\([^&\r]*\).*/\1/p' "$work/head")
+: >waiting
+: >hangs
+mkdir answered
+sign_in() { # NUMBER: 70 sign-ins from an address of its own
+  curl -s -m 600 -Z --parallel-max 70 --interface 127.0.7.$1 "${reach[@]}" -b begun \
+    -o "answered/$1.#1" "$base/rooms/signed-in?code=[1-70]&state=$state" 2>said.$1 &
+  signing[$1]=$!
+}
+wait_so_many() { # WAITING ANSWERED
+  local began=$SECONDS
+  until [ "$(wc -c <waiting) $(find answered -type f -size +0 | wc -l)" = "$1 $2" ]; do
+    [ $((SECONDS - began)) -lt "$patience" ] || return
+    sleep 0.1
+  done
+}
+sign_in 1
+holds 'of 70 from one address 50 wait' wait_so_many 50 20
+holds 'and the others are told so' [ "$(grep -rl 429 answered | wc -l)" = 20 ]
+sign_in 2
+sign_in 3
+holds 'of three times as many 100 wait' wait_so_many 100 110
+holds 'and others are told that too' grep -rq 503 answered
+with alice 'a session beside them' 200 hello /doc/f
+rm hangs
+wait "${signing[@]}"
+with alice 'and after them' 200 hello /doc/f
+
 # And back.
 pasted PASSWORDS=file
 take_front
