@@ -1,6 +1,7 @@
 # Verbs by hand under systemd, while somebody waits for them: a run that is killed lets the server
 # go on; a run that hangs keeps nobody from being shut out, and an open question no night from its
-# backup; what an access was ended by is in nobody's name; and what others send moves no cursor.
+# backup; what an access was ended by is in nobody's name; a server that rested runs again; and what
+# others send moves no cursor.
 
 top=$repo
 version=none
@@ -125,6 +126,24 @@ does 'one more' 'systemctl start rooms-nightly@office; cat "$(rooms-admin latest
 holds 'an access was ended' grep -q '^A:g:ended\..*\.read\.u\.bob@alice:$' "$work/out"
 holds 'and nobody is said to have asked for it' \
   [ "$(grep -c ',alice,/of-mallory,' "$work/out")" = 1 ]
+
+# A night of which all is killed while the server rests, for an access that is over.
+cat >"$machine/usr/local/bin/slow-rooms" <<'END2'
+#!/bin/sh
+[ "$1" != reset ] || sleep 600
+exec /usr/bin/rooms "$@"
+END2
+does 'an access that is over' "curl -sf --unix-socket /run/rooms/office/socket \
+  -H 'Room-User: mallory' -X PUT http://localhost/dacl/of-mallory --data-binary 'list:p
+A:fd:mallory:$ALL
+A:fd:bob:rxtc
+A:g:until.2026-01-01.read.u.bob@alice:'
+  echo PROGRAM=/usr/local/bin/slow-rooms >>/etc/rooms/office.conf
+  systemctl start --no-block rooms-nightly@office"
+until_inside 'the server rests' '[ "$(systemctl is-active rooms@office)" = inactive ]'
+does 'all of the night is killed' 'sed -i "\$d" /etc/rooms/office.conf
+  kill -KILL $(pgrep -f "[r]ooms-admin backup --room office")'
+until_inside 'the server runs again' 'systemctl -q is-active rooms@office'
 
 # A room that lies, and what root writes.
 cat >"$machine/root/liar.py" <<'END2'
