@@ -233,8 +233,17 @@ class Guests(Folder):
             self.assertEqual(run.without_guests(self.asked(), {("hr", "eve"), ("hr", "bob")}),
                              {("hr", "bob")})
             self.assertRegex(run.failures[0], "^two passwords: eve of office are in the directory")
+            self.assertEqual(run.doubled, ["eve"])
             run.room = self.letting(False)
             self.assertEqual(run.without_guests(self.asked(), {("hr", "eve")}), {("hr", "eve")})
+
+    def test_they_keep_what_they_have(self) -> None:
+        """As where an office lets guests in and has left passwords of before in the file."""
+        now = {("hr", "eve"), ("hr", "bob"), ("hr", "kim"), ("staff", "eve")}
+        for stay, going in ((["eve"], {("hr", "kim")}), ([], {("hr", "kim"), ("hr", "eve")})):
+            self.assertEqual(groups.compare(now, {("hr", "bob"), ("hr", "ann")}, {"hr": "h"}, stay),
+                             ({("hr", "ann")}, going, now - {("hr", one) for one in (
+                                 "eve", "bob", "kim") if one not in stay}))
 
     def test_check_says_it(self) -> None:
         site = types.SimpleNamespace(shown=[self.letting(True), self.letting(False)])

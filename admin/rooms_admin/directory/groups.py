@@ -1,7 +1,7 @@
 """Groups of a room brought into line with those of the directory."""
 import argparse
 import os
-from collections.abc import Sized
+from collections.abc import Iterable, Sized
 from contextlib import ExitStack
 
 from ..cli import report
@@ -132,6 +132,8 @@ class Run:
         self.newest = known.NOT_ASKED
         self.mark = server.left_at_rest(room)
         self.failures: list[str] = []
+        # Who has two passwords: whether the directory means the guest isn't known.
+        self.doubled: list[str] = []
 
     def lock(self) -> None:
         """Only whoever has the lock stops and starts the server."""
@@ -165,10 +167,13 @@ class Run:
         return self.without_guests(asked.directory, wanted)
 
     def without_guests(self, directory: Directory, wanted: set[Pair]) -> set[Pair]:
-        """Whoever has the name of a guest has no group until one of them has another one."""
-        if both := guests.both(directory, self.room):
-            self.failures.append(guests.told(self.room, both))
-        return {(group, user) for group, user in wanted if user not in both}
+        """Whoever has the name of a guest gets no group until one of them has another one, and
+        keeps those that they have: most often it is one person."""
+        self.doubled = guests.both(directory, self.room)
+        if self.doubled:
+            self.failures.append(f"{guests.told(self.room, self.doubled)}; their groups stay as "
+                                 "they are")
+        return {(group, user) for group, user in wanted if user not in self.doubled}
 
     def last(self) -> backups.Backup | None:
         found = backups.known(self.room).backups
@@ -211,7 +216,7 @@ class Run:
                 "isn't known")
             now = set()
         if now is not None:
-            coming, going, others = compare(now, wanted, groups)
+            coming, going, others = compare(now, wanted, groups, self.doubled)
             if self.dry:
                 show(Change(now, coming, going))
             if not coming and not going:
@@ -229,7 +234,7 @@ class Run:
             now = members.read(self.room)
             # What is refused now is refused without a stop the next time.
             after.callback(known.try_to_keep, self.room, known.here(self.room, now, self.newest))
-            coming, going, others = compare(now, wanted, groups)
+            coming, going, others = compare(now, wanted, groups, self.doubled)
             self.guard(going, len(others | wanted), most)
             change = Change(now, coming, going)
             if not change.is_none:
@@ -267,10 +272,11 @@ class Run:
                 print(f"{one}: the directory has {report.line(theirs[one.lower()])}")
 
 
-def compare(now: set[Pair], wanted: set[Pair], groups: dict[str, str]
+def compare(now: set[Pair], wanted: set[Pair], groups: dict[str, str], stay: Iterable[str] = ()
             ) -> tuple[set[Pair], set[Pair], set[Pair]]:
-    """What comes, what goes, and what stays: the members of groups that the directory hasn't."""
-    ours = {pair for pair in now if pair[0] in groups}
+    """What comes, what goes, and what stays: the members of groups that the directory hasn't, and
+    users whose groups nobody knows."""
+    ours = {pair for pair in now if pair[0] in groups and pair[1] not in stay}
     return wanted - ours, ours - wanted, now - ours
 
 
