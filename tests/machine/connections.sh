@@ -126,7 +126,8 @@ END
 settled='at=/proc/sys/net/netfilter/nf_conntrack_count
   for turn in {1..300}; do [ $(cat $at) -ge 100 ] || break; sleep 0.1; done; before=$(cat $at)'
 does 'an account sends to as many as it likes' "$settled"'
-  setpriv --reuid=nobody --regid=nogroup --clear-groups python3 -I /usr/local/lib/fills.py; echo $(($(cat $at) - before))'
+  setpriv --reuid=nobody --regid=nogroup --clear-groups python3 -I /usr/local/lib/fills.py
+  echo $(($(cat $at) - before))'
 holds "the table has few of them: $(cat "$work/out")" [ "$(cat "$work/out")" -lt 5000 ]
 holds 'and was asked for them' [ "$(cat "$work/out")" -gt 1000 ]
 
