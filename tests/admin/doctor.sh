@@ -65,16 +65,16 @@ told 'a file and a room' 2 'bad arguments: FILE and --room both say which room i
 "$repo/admin/rooms-admin" doctor --paint x F >"$work/out" 2>"$work/err"
 status=$?
 told 'an option that is none' 2 'no such option: --paint'
-"$repo/admin/rooms-admin" doctor --program "$PWD/none" F >"$work/out" 2>"$work/err"
+"$repo/admin/rooms-admin" doctor --program "$PWD/none" ./F >"$work/out" 2>"$work/err"
 status=$?
 told 'no program' 2 'no program'
-"$repo/admin/rooms-admin" doctor --program "$rooms" --user nobody-here F >"$work/out" 2>"$work/err"
+"$repo/admin/rooms-admin" doctor --program "$rooms" --user nobody-here ./F >"$work/out" 2>"$work/err"
 status=$?
 told 'no user' 2 'there is no user nobody-here'
 
 # By its name of before.
 ln -s "$repo/admin/rooms-admin" rooms-doctor
-./rooms-doctor --program "$rooms" --user nobody-here F >"$work/out" 2>"$work/err"
+./rooms-doctor --program "$rooms" --user nobody-here ./F >"$work/out" 2>"$work/err"
 status=$?
 told 'the old name' 2 'rooms-doctor: its name is now rooms-admin doctor' \
   'there is no user nobody-here'

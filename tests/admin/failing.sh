@@ -123,6 +123,9 @@ for asked in latest 'restore --dry-run --start latest' "restore --dry-run --star
   says "$asked" 2 'not mounted: '
 done
 verb restore --dry-run --start --room "$PWD/conf" "$PWD/backups/conf/$(newest)"
+says "by its path it can't while the room's own disk isn't there" 2 'of FILE, '
+echo "UUID=none $(realpath backups) ext4 nofail 0 2" >root/etc/fstab
+verb restore --dry-run --start --room "$PWD/conf" "$PWD/backups/conf/$(newest)"
 says 'by its path it can be had' 0 'would: restored'
 verb backups --room "$PWD/conf"
 says 'which there are' 1 'not mounted: '
