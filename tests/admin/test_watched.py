@@ -110,6 +110,10 @@ class Watched(unittest.TestCase):
                 self.assertIn("the certificate /rooms.pem doesn't count before ", said)
                 with self.assertRaisesRegex(Refused, "too early: .*: is the clock right"):
                     setting_up.look_at_pair(changes.Changes(home, False), *pair)
+            # Each night would say that nginx can't use it.
+            with unittest.mock.patch.object(setting_up, "_UNSEEN", (f"{home}/",)), \
+                    self.assertRaisesRegex(Refused, "no certificate: .* is in a home, "):
+                setting_up.look_at_pair(changes.Changes(home, False), *pair)
             # What setup would refuse isn't written by set.
             named = {"CERTIFICATE": pair[0], "KEY": f"{home}/none"}
             text = "".join(f"{name}={value}\n" for name, value in named.items())

@@ -41,12 +41,15 @@ mkdir log
 log_line() { echo "192.0.2.7 - $1 [01/Dec/2026:10:00:00 +0000] \"$2\" $3 0"; } # USER REQUEST STATUS
 { log_line bob 'PUT /drive/letters/a%20%C3%BC' 204 && log_line carol 'PUT /doc/letters/b/c' 204 &&
   log_line bob 'PUT /doc/letters/d' 403; } >log/access.log
-{ log_line bob 'DELETE /drive/letters/e' 204 && log_line bob 'PUT /door/doc/letters/new' 201; } |
+# (Whoever did it chose the names.)
+{ log_line bob 'DELETE /drive/letters/e' 204 && log_line bob 'PUT /door/doc/letters/new' 201 &&
+  log_line bob 'PUT /doc/letters/-dash' 201; } |
   gzip >log/access.log.2.gz
 paste_in "cd $PWD/none && $(blocks security.md zcat | sed "s#/var/log/nginx#$PWD/log#")"
 prints 'what one account changed' 'folders 3, documents 5, left out 0' \
   'made 2, replaced 1, there already 1, left out 0'
 holds 'and what is newer' grep -q "cannot stat 'new'" "$work/err"
+holds 'a name like an option too' grep -q "cannot stat '-dash'" "$work/err"
 for name in 'a ü:then' b/c:now d:now e/f:then; do
   path=${name%:*}
   answers "$path is of ${name#*:}" "${name#*:} 200" \

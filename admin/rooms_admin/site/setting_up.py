@@ -19,6 +19,8 @@ _OFFICE = "/etc/rooms/office.conf"
 _UNIT = "rooms-passwords.service"
 # From this number on Debian gives them to people.
 _PEOPLE = 1000
+# What units with ProtectHome don't see.
+_UNSEEN = ("/root/", "/home/", "/run/user/")
 
 
 def set_up(made: Changes, pair: tuple[str, str] | None, chosen: str,
@@ -143,6 +145,9 @@ def look_at_pair(made: Changes, certificate: str, key: str) -> tuple[str, str]:
             raise Refused(f"no file: {path} doesn't exist")
         if not os.access(path, os.R_OK):
             raise Refused(f"no file: {path} can't be read")
+        if os.path.realpath(path).startswith(_UNSEEN):
+            raise Refused(f"no certificate: {path} is in a home, which no unit of rooms sees: put "
+                          "it below /etc/ssl")
         if not forms.matches(r"[-A-Za-z0-9._/+@,=:]+", path):
             raise Refused(f"bad name: '{path}' has other characters than "
                           "A-Z a-z 0-9 - . _ / + @ , = :")
