@@ -255,6 +255,15 @@ class Guests(Folder):
         self.assertEqual((level, said[:20]), (2, "two passwords: eve o"))
 
 
+class Typed(unittest.TestCase):
+    def test_the_end_of_what_is_typed(self) -> None:
+        """Ctrl-D where a password is asked for."""
+        with patch("getpass.getpass", side_effect=EOFError), \
+                contextlib.redirect_stderr(io.StringIO()), \
+                self.assertRaises(report.Interrupted):
+            report.secret("New password of greta: ")
+
+
 class ManyPasswords(Folder):
     def test_users_of_a_file_that_is_full_can_go(self) -> None:
         file, line = f"{self.home}/passwords", b"$2y$05$" + b"x" * 53

@@ -1,4 +1,5 @@
 """What is printed, and how a verb ends."""
+import getpass
 import json
 import os
 import signal
@@ -66,6 +67,15 @@ def interrupted() -> Interrupted:
         return Interrupted("interrupted")
     return Interrupted("interrupted: " + (f"this alone was done: {'; '.join(_did)}" if _did else
                                           "nothing was changed"))
+
+
+def secret(prompt: str) -> str:
+    """What somebody types at a terminal and doesn't see; its end (Ctrl-D) is as an interruption."""
+    try:
+        return getpass.getpass(prompt)
+    except EOFError:
+        print(file=sys.stderr)
+        raise interrupted() from None
 
 
 def _interrupt(_number: int, _frame: types.FrameType | None) -> None:

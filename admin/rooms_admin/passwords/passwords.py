@@ -4,7 +4,6 @@ own, where no link is followed, and what is written has this owner and this mode
 lock of their own, which nobody holds for longer than it takes to write them: so whatever else is at
 work, somebody can be shut out."""
 import errno
-import getpass
 import os
 import re
 import secrets
@@ -14,6 +13,7 @@ from collections.abc import Iterator
 from contextlib import AbstractContextManager, contextmanager
 from dataclasses import dataclass
 
+from ..cli import report
 from ..host import as_if, commands, locks, safe
 from ..room import published
 from . import password_rules, remembered
@@ -63,8 +63,8 @@ def ask(user: str) -> str:
         text = sys.stdin.readline()
         given = again = text.rstrip("\n")
     else:
-        given = getpass.getpass(f"New password of {user}: ")
-        again = getpass.getpass("The same password again: ")
+        given = report.secret(f"New password of {user}: ")
+        again = report.secret("The same password again: ")
     if given != again:
         raise Refused("bad password: the two differ")
     if not password_rules.can_be_given(given):

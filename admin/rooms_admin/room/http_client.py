@@ -1,7 +1,6 @@
 """Requests to a room: whom it asks as, what may go unencrypted, and which replies end a run."""
 import argparse
 import base64
-import getpass
 import http.client
 import json
 import os
@@ -306,7 +305,7 @@ def _without_port(host: str) -> str:
 
 def _ask_password(user: str) -> str:
     if sys.stdin.isatty():
-        return getpass.getpass(f"Password of {user}: ")
+        return report.secret(f"Password of {user}: ")
     line = sys.stdin.readline()
     if not line:
         raise Refused("no password was given")
