@@ -68,7 +68,8 @@ told 'an option that is none' 2 'no such option: --paint'
 "$repo/admin/rooms-admin" doctor --program "$PWD/none" ./F >"$work/out" 2>"$work/err"
 status=$?
 told 'no program' 2 'no program'
-"$repo/admin/rooms-admin" doctor --program "$rooms" --user nobody-here ./F >"$work/out" 2>"$work/err"
+"$repo/admin/rooms-admin" doctor --program "$rooms" --user nobody-here ./F >"$work/out" \
+  2>"$work/err"
 status=$?
 told 'no user' 2 'there is no user nobody-here'
 
