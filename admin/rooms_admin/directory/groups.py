@@ -171,8 +171,7 @@ class Run:
         keeps those that they have: most often it is one person."""
         self.doubled = guests.both(directory, self.room)
         if self.doubled:
-            self.failures.append(f"{guests.told(self.room, self.doubled)}; their groups stay as "
-                                 "they are")
+            self.failures.append(guests.told(self.room, self.doubled))
         return {(group, user) for group, user in wanted if user not in self.doubled}
 
     def last(self) -> backups.Backup | None:

@@ -48,7 +48,8 @@ def both(asked: Directory, room: Place | Room) -> list[str]:
 
 def told(room: Place | Room, found: Iterable[str]) -> str:
     return (f"two passwords: {', '.join(found)} of {room.name} are in the directory too, and may "
-            f"keep none here: for name in {shlex.join(found)}; do rooms-admin user remove "
+            "keep none here, and their groups stay as they are until then: "
+            f"for name in {shlex.join(found)}; do rooms-admin user remove "
             f'"$name" --password --room {room.name}; done')
 
 
