@@ -381,7 +381,7 @@ class Guests(unittest.TestCase):
         with self.assertRaises(Refused) as refused:
             self.look("bob:x\neve:x\nalice:x\n", True)
         self.assertTrue(str(refused.exception).endswith(
-            'here: for name in alice bob; do rooms-admin user remove "$name" --password '
+            'then: for name in alice bob; do rooms-admin user remove "$name" --password '
             "--room office; done"), refused.exception)
 
 
