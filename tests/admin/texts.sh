@@ -233,7 +233,7 @@ says 'a link' 1 'a link, which is not followed'
 rm "$later/lists.txt"
 mkdir whole
 mv "$later"/F* whole/
-head -c 20000 /dev/zero >"$later/F"
+head -c "$(stat -c %s whole/F)" /dev/zero >"$later/F"
 room_verb lists /
 says 'a damaged file without texts' 1 'dump of the copy failed, status '
 mv whole/* "$later/"

@@ -15,7 +15,8 @@ class Night(ended.Run):
     def __init__(self, day: str) -> None:
         self.clock = self.today = datetime.date.fromisoformat(day)
         self.waiting = 0
-        self.undone: list[str] = []
+        self._undone: list[tuple[bytes, str]] = []
+        self._strange: list[tuple[bytes, str]] = []
 
 
 def said(line: str) -> object:

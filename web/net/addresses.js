@@ -9,7 +9,7 @@ const isName = (word) => word !== '.' && word !== '..';
 // are relative, so a room is asked below the address at which its page is served.
 export function target(word, path) {
   const names = path.split('/').slice(1);
-  if (!names.every(isName)) throw new RangeError(`no path of a room: ${path}`);
+  if (!names.every(isName)) throw new RangeError();
   return `${word}/${names.map(encodeURIComponent).join('/')}`;
 }
 
